@@ -1,0 +1,3 @@
+pub mod Info
+pub mod Spelled
+pub mod Views
