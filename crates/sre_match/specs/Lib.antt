@@ -1,0 +1,9 @@
+pub mod Cursor
+pub mod Attempts
+pub mod Repeats
+pub mod Paths
+pub mod Matches
+pub mod Search
+pub mod Filling
+pub mod Laws
+pub mod Rows

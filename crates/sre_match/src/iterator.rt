@@ -1,0 +1,92 @@
+//! The spans of a subject, one after another.
+
+ghost use Rattle.std.specs.Prelude.{◌≡◌, false, IfOk, OnErr, [], OnOk};
+ghost use Rattle.sre_match.specs.Matches.{if_found, next_span};
+ghost use Rattle.sre_match.specs.Search.{Standing, stands_behind};
+
+use crate::attempts::next_ends;
+use crate::error::MatchError;
+use crate::request::Request;
+use crate::state::State;
+use crate::view::StrDrive;
+use py_base::Steps;
+use std::alloc::Global;
+use std::marker::Model;
+use std::sync::ledger::Ledger;
+
+/// The spans of a request's subject, one after another: each the leftmost next from the end of the one
+/// before, where an empty outcome is passed over only there, and only behind an empty span.
+#[derive(Drop)]
+pub struct SearchIter<'c, S: StrDrive> {
+    request: Request<'c, S>,
+    state: State,
+    place: usize,
+    advance: bool,
+}
+
+impl<'c, S: StrDrive> Model for SearchIter<'c, S> {
+    ghost use Rattle.std.specs.Prelude.{◌≡◌, false};
+    ghost use Rattle.sre_match.specs.Search.{Walk, walk_code};
+
+    ghost Value = { Walk };
+
+    ghost coded = { walk_code };
+
+    ghost view = { λ w. record { search = w.request; standing = record { place = w.place; advance = w.advance }; span = w.state } };
+
+    ghost invariant = { λ w. w.request.whole ≡ false };
+}
+
+impl<'c, S: StrDrive> SearchIter<'c, S> {
+    /// A walk from the request's start.
+    pub fn new(alloc: Global, request: Request<'c, S>) -> SearchIter<'c, S>
+        requires whole { request.whole ≡ false }
+        requires advance { request.advance ≡ false }
+        ensures search { result.search ≡ request.entry }
+        ensures standing { result.standing ≡ record { place = request.entry.start; advance = false } }
+        ensures span { result.span ≡ record { start = 0; stop = 0; marks = [] } }
+    {
+        SearchIter {
+            place: request.start,
+            request,
+            state: State::new(alloc),
+            advance: false,
+        }
+    }
+
+    /// Whether there is one more span, which the state then holds.
+    ///
+    /// # Errors
+    ///
+    /// `NoMemory`. The walk stands where it stood.
+    pub fn next<L: Ledger>(&mut self, steps: &mut Steps<L>) -> Result<bool, MatchError>
+        ensures found { IfOk result (λ found. if_found found self.new.span ≡ next_span self.old.search.tree self.old.search.subject self.old.standing.place self.old.standing.advance false) }
+        ensures moved { OnOk result (self.new.standing ≡ stands_behind (next_span self.old.search.tree self.old.search.subject self.old.standing.place self.old.standing.advance false) self.old.standing) }
+        ensures refused { OnErr result (self.new.standing ≡ self.old.standing) }
+        ensures search { self.new.search ≡ self.old.search }
+    {
+        match next_ends(&self.request, self.place, self.advance, steps) {
+            None => Ok(false),
+            Some((start, stop)) => {
+                self.place = stop;
+                self.advance = start == stop;
+                self.state.hold(start, stop);
+                Ok(true)
+            }
+        }
+    }
+
+    /// The last span.
+    pub fn state(&self) -> &State
+        ensures { result.now ≡ self.now.span }
+    {
+        &self.state
+    }
+
+    /// The request's view.
+    pub fn view(&self) -> &S
+        ensures { S.units result.now ≡ self.now.search.units }
+    {
+        &self.request.string
+    }
+}

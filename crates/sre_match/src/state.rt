@@ -1,0 +1,115 @@
+//! The last match.
+
+ghost use Rattle.std.specs.Prelude.{◌≡◌, [], IfOk, option_map};
+ghost use Rattle.sre_match.specs.Matches.{if_found, span_at, first_allowed, next_span};
+
+use crate::attempts::{first_end, next_ends};
+use crate::error::MatchError;
+use crate::marks::Marks;
+use crate::request::Request;
+use crate::view::StrDrive;
+use py_base::Steps;
+use std::alloc::Global;
+use std::marker::Model;
+use std::sync::ledger::Ledger;
+
+/// The last match. What it holds after an answer that is not true is open until the next true one.
+#[derive(Debug, Drop)]
+pub struct State {
+    start: usize,
+    stop: usize,
+    marks: Marks,
+}
+
+impl Model for State {
+    ghost use Rattle.sre_match.specs.Matches.{Span};
+
+    ghost Value = { Span };
+
+    ghost view = { λ s. record { start = s.start; stop = s.stop; marks = s.marks } };
+}
+
+impl State {
+    /// An empty span with no marks.
+    pub fn new(alloc: Global) -> State
+        ensures { result ≡ record { start = 0; stop = 0; marks = [] } }
+    {
+        State {
+            start: 0,
+            stop: 0,
+            marks: Marks::new(alloc),
+        }
+    }
+
+    // Holds a match without marks.
+    pub(crate) fn hold(&mut self, start: usize, stop: usize)
+        ensures { self.new ≡ record { start = start; stop = stop; marks = [] } }
+    {
+        self.start = start;
+        self.stop = stop;
+        self.marks.clear();
+    }
+
+    /// Whether there is an allowed outcome at the request's start. The state then holds the first one.
+    ///
+    /// # Errors
+    ///
+    /// `NoMemory`.
+    pub fn pymatch<S: StrDrive, L: Ledger>(
+        &mut self,
+        request: &Request<'_, S>,
+        steps: &mut Steps<L>,
+    ) -> Result<bool, MatchError>
+        ensures { IfOk result (λ found. if_found found self.new ≡ option_map (span_at request.now.start) (first_allowed request.now.tree request.now.subject request.now.start request.now.advance request.now.whole)) }
+    {
+        match first_end(request, request.start, request.must_advance, steps) {
+            None => Ok(false),
+            Some(stop) => {
+                self.hold(request.start, stop);
+                Ok(true)
+            }
+        }
+    }
+
+    /// The same at the least place from the request's start on that has an allowed outcome.
+    ///
+    /// # Errors
+    ///
+    /// `NoMemory`.
+    pub fn search<S: StrDrive, L: Ledger>(
+        &mut self,
+        request: &Request<'_, S>,
+        steps: &mut Steps<L>,
+    ) -> Result<bool, MatchError>
+        ensures { IfOk result (λ found. if_found found self.new ≡ next_span request.now.tree request.now.subject request.now.start request.now.advance request.now.whole) }
+    {
+        match next_ends(request, request.start, request.must_advance, steps) {
+            None => Ok(false),
+            Some((start, stop)) => {
+                self.hold(start, stop);
+                Ok(true)
+            }
+        }
+    }
+
+    /// The place where the match begins.
+    pub fn start(&self) -> usize
+        ensures { result ≡ self.now.start }
+    {
+        self.start
+    }
+
+    /// The place where the match ends.
+    pub fn position(&self) -> usize
+        ensures { result ≡ self.now.stop }
+    {
+        self.stop
+    }
+
+    /// The groups of the match.
+    pub fn marks(&self) -> &Marks
+        ensures { result.now ≡ self.now.marks }
+    {
+        &self.marks
+    }
+}
