@@ -1,0 +1,11 @@
+pub mod Known
+pub mod Texts
+pub mod Walks
+pub mod Bytes
+pub mod Cuts
+pub mod Decimals
+pub mod Hexadecimal
+pub mod Lines
+pub mod Numbers
+pub mod OneRequest
+pub mod Completeness

@@ -1,0 +1,90 @@
+-- A line at the front is one line.
+use Rattle.std.proofs.Common.{◌≡◌, ◌≢◌, ℕ, List, [], ◌∷◌, ◌++◌, inr, Option, Some, None, Bor, IfSome, IfNone, suc, refl, sym, ap, ◌∙◌, arith, append_assoc, codes}
+use Rattle.std.proofs.lemmas.List.{append-nil, append_cancel_left}
+use Rattle.sre_program.specs.Cuts.{Lacks}
+use Rattle.std.specs.Prelude.{encode_utf8_all}
+use Rattle.std.specs.Fmt.{decimal}
+use Rattle.std.proofs.lemmas.List.Elements.{All-cons}
+use Rattle.hex.specs.Hex.{encode_lower}
+use Rattle.sre_program.specs.Requests.{Request, IsRequest, line, numbers, token}
+use Rattle.sre_program.proofs.Cuts.{same_cut}
+use Rattle.sre_program.proofs.Decimals.{lacks_decimal}
+use Rattle.sre_program.proofs.Hexadecimal.{lacks_line_feed}
+use Rattle.sre_program.proofs.Numbers.{lacks_numbers}
+
+pub line_is : (name value rest : List ℕ) → line name value ++ rest ≡ name ++ (value ++ 10 ∷ rest)
+line_is name value rest = append_assoc name (value ++ 10 ∷ []) rest ∙ ap (λ (l : List ℕ). name ++ l) (append_assoc value (10 ∷ []) rest)
+
+-- what stands behind the name of a line
+pub behind_name : (bytes name behind value rest : List ℕ) → bytes ≡ name ++ behind → bytes ≡ line name value ++ rest → behind ≡ value ++ 10 ∷ rest
+behind_name bytes name behind value rest e f = append_cancel_left name behind (value ++ 10 ∷ rest) (sym e ∙ f ∙ line_is name value rest)
+
+abbrev pub Halves : Type 0
+Halves = Option (Bor (List ℕ) × Bor (List ℕ))
+
+pub line_found : (bytes name behind : List ℕ) (r : Halves) → bytes ≡ name ++ behind → IfSome r (λ x. behind ≡ x.0.now ++ 10 ∷ x.1.now) → IfSome r (λ x. bytes ≡ line name x.0.now ++ x.1.now)
+line_found bytes name behind (Some x) e f = e ∙ ap (λ (l : List ℕ). name ++ l) f ∙ sym (line_is name x.0.now x.1.now)
+line_found bytes name behind None e f = tt
+
+pub line_only : (bytes name behind : List ℕ) (r : Halves) → bytes ≡ name ++ behind → IfSome r (λ x. behind ≡ x.0.now ++ 10 ∷ x.1.now) → IfSome r (λ x. Lacks 10 x.0.now)
+    → IfSome r (λ x. (value rest : List ℕ) → Lacks 10 value → bytes ≡ line name value ++ rest → (x.0.now ≡ value) × (x.1.now ≡ rest))
+line_only bytes name behind (Some x) e f g = λ value rest h is.
+    let both : x.0.now ++ 10 ∷ x.1.now ≡ value ++ 10 ∷ rest = sym f ∙ behind_name bytes name behind value rest e is in
+    let same = same_cut 10 x.0.now value (10 ∷ x.1.now) (10 ∷ rest) g h (inr (x.1.now, refl)) (inr (rest, refl)) both in
+    let rests : 10 ∷ x.1.now ≡ 10 ∷ rest = same.1 in
+    (same.0, cc)
+line_only bytes name behind None e f g = tt
+
+lacked : (value rest : List ℕ) → Lacks 10 (value ++ 10 ∷ rest) → ⊥
+lacked [] rest h = h 0 10 (omega arith) refl
+lacked (x ∷ value) rest h = lacked value rest (λ k d lt. h (suc k) d (omega arith))
+
+pub line_none : (bytes name behind : List ℕ) (r : Halves) → bytes ≡ name ++ behind → IfNone r (Lacks 10 behind)
+    → IfNone r ((value rest : List ℕ) → Lacks 10 value → bytes ≡ line name value ++ rest → ⊥)
+line_none bytes name behind (Some x) e f = tt
+line_none bytes name behind None e f = λ value rest h is.
+    let both : behind ≡ value ++ 10 ∷ rest = behind_name bytes name behind value rest e is in
+    lacked value rest (rw both at f)
+
+-- ---- the lines of a request
+
+lacks_token : (text : List ℕ) → Lacks 10 (token text)
+lacks_token text = All-cons (λ b. b ≢ 10) 116 (encode_lower (encode_utf8_all text)) (omega arith) (lacks_line_feed (encode_utf8_all text))
+
+-- no line feed stands in one
+pub record IsWhole (r : Request) : Type 0 where
+  pub pattern : Lacks 10 (token r.pattern)
+  pub words : Lacks 10 (numbers r.words)
+  pub groups : Lacks 10 (decimal r.groups)
+  pub limit : Lacks 10 (decimal r.limit)
+  pub literal : Lacks 10 (token r.literal)
+  pub subject : Lacks 10 (token r.subject)
+
+pub whole : (r : Request) → IsRequest r → IsWhole r
+whole r ok = record {
+  pattern = lacks_token r.pattern;
+  words = lacks_numbers 10 r.words (omega arith) ok.words;
+  groups = lacks_decimal 10 r.groups (omega arith) ok.groups;
+  limit = lacks_decimal 10 r.limit (omega arith) ok.limit;
+  literal = lacks_token r.literal;
+  subject = lacks_token r.subject;
+}
+
+-- what follows a line
+abbrev pub after_literal : Request → List ℕ
+after_literal r = line (codes "subject ") (token r.subject)
+
+abbrev pub after_limit : Request → List ℕ
+after_limit r = line (codes "list ") (token r.literal) ++ after_literal r
+
+abbrev pub after_groups : Request → List ℕ
+after_groups r = line (codes "limit ") (decimal r.limit) ++ after_limit r
+
+abbrev pub after_words : Request → List ℕ
+after_words r = line (codes "groups ") (decimal r.groups) ++ after_groups r
+
+abbrev pub after_pattern : Request → List ℕ
+after_pattern r = line (codes "code") (numbers r.words) ++ after_words r
+
+pub last_line : (rest : List ℕ) (r : Request) → rest ≡ after_literal r → rest ≡ line (codes "subject ") (token r.subject) ++ []
+last_line rest r e = e ∙ sym (append-nil (after_literal r))

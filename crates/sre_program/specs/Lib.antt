@@ -1,0 +1,12 @@
+pub mod Requests
+pub mod Substitution
+pub mod Cuts
+pub mod Lines
+pub mod Answer
+pub mod Headline
+pub mod Causes
+pub mod Endings
+pub mod Replies
+pub mod Wanted
+pub mod Laws
+pub mod Rows

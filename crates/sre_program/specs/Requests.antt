@@ -1,0 +1,46 @@
+-- A request of substitution, and its text.
+use Rattle.std.specs.Prelude.{◌≡◌, ℕ, ◌<◌, ◌^◌, List, ◌++◌, All, codes, true, encode_utf8_all}
+use Rattle.std.specs.List.{flat_map}
+use Rattle.std.specs.Fmt.{decimal}
+use Rattle.std.specs.Str.{all_scalars}
+use Rattle.hex.specs.Hex.{encode_lower}
+
+-- a pattern, the code words that it was compiled to, how many groups it has, how many spans are replaced at most (0 is no limit), what stands in the place of each, and the subject; texts are lists of code points
+pub record Request : Type 0 where
+  pub pattern : List ℕ
+  pub words : List ℕ
+  pub groups : ℕ
+  pub limit : ℕ
+  pub literal : List ℕ
+  pub subject : List ℕ
+
+-- what may stand in a request
+pub record IsRequest (r : Request) : Type 0 where
+  pub pattern : all_scalars r.pattern ≡ true
+  pub words : All (λ w. w < 2 ^ 32) r.words
+  pub groups : r.groups < 2 ^ 64
+  pub limit : r.limit < 2 ^ 64
+  pub literal : all_scalars r.literal ≡ true
+  pub subject : all_scalars r.subject ≡ true
+
+-- a text's token: `t`, and its UTF-8 bytes in lower-case hexadecimal
+abbrev pub token : List ℕ → List ℕ
+token text = codes "t" ++ encode_lower (encode_utf8_all text)
+
+-- decimals with a blank before each
+abbrev pub numbers : List ℕ → List ℕ
+numbers words = flat_map (λ w. codes " " ++ decimal w) words
+
+-- a line: a name, and what stands behind it
+abbrev pub line : List ℕ → List ℕ → List ℕ
+line name rest = name ++ (rest ++ codes "\n")
+
+-- the lines of a request, in order
+abbrev pub text_of : Request → List ℕ
+text_of r =
+    line (codes "pattern ") (token r.pattern)
+    ++ (line (codes "code") (numbers r.words)
+    ++ (line (codes "groups ") (decimal r.groups)
+    ++ (line (codes "limit ") (decimal r.limit)
+    ++ (line (codes "list ") (token r.literal)
+    ++ line (codes "subject ") (token r.subject)))))

@@ -1,0 +1,62 @@
+//! Replaces what a pattern's code finds in a subject.
+#![tactic(auto)]
+
+ghost use Rattle.std.specs.Prelude.{◌≡◌, ◌<◌};
+
+mod answer;
+mod edge;
+mod ending;
+mod input;
+pub mod laws;
+mod parsing;
+mod program;
+mod substitution;
+
+use crate::edge::{StdSink, StdSource};
+use crate::program::run;
+use py_base::Steps;
+use std::alloc::Global;
+use std::process::ExitCode;
+use std::sync::ledger::{Blank, Ledger};
+use std::{env, io};
+
+// Runs the words over a new counter of steps.
+fn run_counted<S: py_base::Source, K: py_base::Sink, L: Ledger>(
+    alloc: Global,
+    words: &[String],
+    source: &mut S,
+    sink: &mut K,
+    blank: Blank,
+) -> u8
+    requires name { blank.name ≡ L.name }
+    requires parts { blank.parts ≡ L.parts }
+    requires some { 0 < L.parts }
+{
+    let mut steps = Steps::<L>::new(blank);
+    run(alloc, words, source, sink, &mut steps)
+}
+
+// The words of the command line, without the program's name.
+fn words_of(rt: &HostRuntime) -> io::Result<Vec<String>> {
+    let mut words = Vec::new(rt.alloc());
+    for word in env::args(rt)?.skip(1) {
+        words.push(word)?;
+    }
+    Ok(words)
+}
+
+fn main(rt: HostRuntime) -> ExitCode {
+    let Ok(words) = words_of(&rt) else {
+        return ExitCode::from(6);
+    };
+    let mut source = StdSource::new(rt.stdin());
+    let mut sink = StdSink::new(rt.stdout());
+    let status = run_counted::<_, _, std::marker::Brand>(
+        rt.alloc(),
+        &words,
+        &mut source,
+        &mut sink,
+        Blank::new(1),
+    );
+    ExitCode::from(status)
+}
