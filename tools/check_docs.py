@@ -2,9 +2,10 @@
 """Checks what no proof sees: the examples, the links of the documents, and HANDLES.
 
 Prints nothing and ends with 0 where all is well. Each fault is a line on standard error, and then
-it ends with 1. The examples are run only where the program is built (`rt run` in
-crates/sre_program builds it).
+it ends with 1. The examples are run only where the program is built, and is not older than its
+sources (`rt run -- sub < stdin` in crates/sre_program builds it).
 """
+import os
 import pathlib
 import re
 import subprocess
@@ -17,7 +18,15 @@ LINK = re.compile(r"\[[^\]]*\]\(([^)\s]+)\)")
 CODE = re.compile(r"```.*?```|`[^`\n]*`", re.DOTALL)
 
 
+def is_built():
+    if not os.access(PROGRAM, os.X_OK):
+        return False
+    built = PROGRAM.stat().st_mtime
+    return all(source.stat().st_mtime <= built for source in TOP.glob("crates/*/src/**/*.rt"))
+
+
 def example_faults():
+    built = is_built()
     requests = sorted((TOP / "examples").glob("*.request"))
     if not requests:
         yield "examples/: there is no request"
@@ -25,7 +34,7 @@ def example_faults():
         answer = request.with_suffix(".answer")
         if not answer.exists():
             yield f"examples/{answer.name}: is missing"
-        elif PROGRAM.exists():
+        elif built:
             yield from run_faults(request, answer)
 
 
