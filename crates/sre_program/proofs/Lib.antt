@@ -9,6 +9,5 @@ pub mod Tokens
 pub mod Lines
 pub mod Numbers
 pub mod Lists
-pub mod Fills
 pub mod OneRequest
 pub mod Completeness

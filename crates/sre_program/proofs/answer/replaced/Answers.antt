@@ -4,6 +4,7 @@ use Rattle.std.proofs.lemmas.List.{append-nil}
 use Rattle.sre_code.proofs.Info.{rest_whole}
 use Rattle.sre_match.specs.Matches.{Span}
 use Rattle.sre_match.specs.Search.{Search}
+use Rattle.sre_match.specs.Filling.{fill}
 use Rattle.sre_program.specs.Substitution.{replacement_of}
 use Rattle.sre_program.proofs.Walks.{copied_start, copied_more, copied_end, follows_is, falls, over_same, moved_same, standing_start, subject_start}
 use Rattle.sre_program.proofs.answer.replaced.Goals as goal
@@ -56,22 +57,22 @@ loop-units-preserved g c =
     let e = over_same c.loop-units.walk.search.tree c.args.code.now.tree c.loop-units.walk.search.subject c.as_slice-subject.result.now c.args.asked.now.limit c.loop-units.count c.loop-units.walk.standing.place c.loop-units.walk.standing.advance (Some x) c.loop-units.invariant.tree c.loop-units.invariant.subject (rw c.if-branch.true at c.in_ok-has_next.ensures.found) in
     let m = moved_same c.loop-units.walk.search.tree c.args.code.now.tree c.loop-units.walk.search.subject c.as_slice-subject.result.now c.args.asked.now.limit c.loop-units.count c.loop-units.walk.standing c.has_next.new.walk.standing c.loop-units.invariant.tree c.loop-units.invariant.subject c.in_ok-has_next.ensures.moved in
     let start : c.start.result ≡ x.start = c.start.ensures ∙ ap (λ (y : Span). y.start) c.state.ensures in
-    let stop : c.position-place.result ≡ x.stop = c.position-place.ensures ∙ ap (λ (y : Span). y.stop) c.state-in-loop-units.ensures in
+    let stop : c.position-place.result ≡ x.stop = c.position-place.ensures ∙ ap (λ (y : Span). y.stop) c.state-in-loop-units-2.ensures in
     let gap : c.extend_from_slice.new.self.items ≡ c.loop-units.units.items ++ slice_range c.as_slice-subject.result.now c.loop-units.place x.start =
     c.in_ok-extend_from_slice.ensures.items ∙ ap (λ (n : ℕ). c.loop-units.units.items ++ take (n - c.loop-units.place) (drop c.loop-units.place c.as_slice-subject.result.now)) start in
-    let put : c.extend_from_slice-in-loop-units.new.self.items ≡ c.extend_from_slice.new.self.items ++ (c.args.asked.now.literal.items ++ []) =
-    c.in_ok-extend_from_slice-2.ensures.items ∙ ap (λ (l : List ℕ). c.extend_from_slice.new.self.items ++ l) (c.as_slice.ensures.value ∙ sym (append-nil c.args.asked.now.literal.items)) in
+    let put : c.fill.new.units.items ≡ c.extend_from_slice.new.self.items ++ fill (replacement_of c.args.asked.now.template) c.as_slice-subject.result.now x =
+    c.in_ok-fill.ensures ∙ ap (λ (y : Span). c.extend_from_slice.new.self.items ++ fill (replacement_of c.args.asked.now.template) c.as_slice-subject.result.now y) c.state-in-loop-units.ensures in
     record {
       tree = ap (λ (r : Search). r.tree) c.has_next.ensures.search ∙ c.loop-units.invariant.tree;
       subject = ap (λ (r : Search). r.subject) c.has_next.ensures.search ∙ c.loop-units.invariant.subject;
-      copied = rw stop (copied_more (replacement_of c.args.asked.now.template) c.as_slice-subject.result.now c.args.code.now.tree c.args.asked.now.limit c.loop-units.count c.loop-units.walk.standing c.has_next.new.walk.standing c.loop-units.place c.loop-units.units.items c.extend_from_slice.new.self.items c.extend_from_slice-in-loop-units.new.self.items x c.loop-units.invariant.copied e m gap put);
+      copied = rw stop (copied_more (replacement_of c.args.asked.now.template) c.as_slice-subject.result.now c.args.code.now.tree c.args.asked.now.limit c.loop-units.count c.loop-units.walk.standing c.has_next.new.walk.standing c.loop-units.place c.loop-units.units.items c.extend_from_slice.new.self.items c.fill.new.units.items x c.loop-units.invariant.copied e m gap put);
     }
 
 pub returns-clause-units : goal.returns-clause-units
 returns-clause-units g c =
     let e = over_same c.loop-units.walk.search.tree c.args.code.now.tree c.loop-units.walk.search.subject c.as_slice-subject.result.now c.args.asked.now.limit c.loop-units.count c.loop-units.walk.standing.place c.loop-units.walk.standing.advance None c.loop-units.invariant.tree c.loop-units.invariant.subject (rw c.if-branch.false at c.in_ok-has_next.ensures.found) in
     let last : c.extend_from_slice-2.new.self.items ≡ c.loop-units.units.items ++ drop c.loop-units.place c.as_slice-subject.result.now =
-    c.in_ok-extend_from_slice-3.ensures.items ∙ ap (λ (l : List ℕ). c.loop-units.units.items ++ l) (rest_whole c.loop-units.place c.as_slice-subject.result.now) in
+    c.in_ok-extend_from_slice-2.ensures.items ∙ ap (λ (l : List ℕ). c.loop-units.units.items ++ l) (rest_whole c.loop-units.place c.as_slice-subject.result.now) in
     rw (← c.as_slice-subject.ensures.value) ((copied_end (replacement_of c.args.asked.now.template) c.as_slice-subject.result.now c.args.code.now.tree c.args.asked.now.limit c.loop-units.count c.loop-units.walk.standing c.loop-units.place c.loop-units.units.items c.extend_from_slice-2.new.self.items c.loop-units.invariant.copied e last).0)
 
 pub returns-clause-count : goal.returns-clause-count
