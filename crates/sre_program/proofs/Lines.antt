@@ -1,5 +1,5 @@
 -- A line at the front is one line.
-use Rattle.std.proofs.Common.{◌≡◌, ◌≢◌, ℕ, List, [], ◌∷◌, ◌++◌, inr, Option, Some, None, Bor, IfSome, IfNone, suc, refl, sym, ap, ◌∙◌, arith, append_assoc, codes}
+use Rattle.std.proofs.Common.{◌≡◌, ℕ, List, [], ◌∷◌, ◌++◌, inr, Option, Some, None, Bor, IfSome, IfNone, suc, refl, sym, ap, ◌∙◌, arith, append_assoc, codes}
 use Rattle.std.proofs.lemmas.List.{append-nil, append_cancel_left}
 use Rattle.sre_program.specs.Cuts.{Lacks}
 use Rattle.std.specs.Fmt.{decimal}

@@ -1,7 +1,5 @@
 -- A list is read token by token, and different lists have different tokens.
-use Rattle.std.proofs.Common.{◌≡◌, ◌≢◌, ℕ, ◌<◌, ◌≤◌, ◌^◌, true, List, [], ◌∷◌, ◌++◌, inl, inr, map, drop, refl, sym, ap, ◌∙◌, arith, append_assoc, codes}
-use Rattle.std.specs.Prelude.{All}
-use Rattle.std.specs.List.{flat_map}
+use Rattle.std.proofs.Common.{◌≡◌, ◌≢◌, ℕ, ◌<◌, ◌≤◌, ◌^◌, true, List, [], ◌∷◌, ◌++◌, inl, inr, drop, refl, sym, ap, ◌∙◌, arith, append_assoc}
 use Rattle.std.specs.Str.{all_scalars}
 use Rattle.std.proofs.lemmas.List.{append-nil}
 use Rattle.std.proofs.lemmas.List.Concat.{flat_map-append}
@@ -12,9 +10,6 @@ use Rattle.sre_program.specs.Requests.{IsList, token, group_token, list_tokens}
 use Rattle.sre_program.specs.Pairs.{ArePairs, pair_tokens}
 use Rattle.sre_program.proofs.Cuts.{same_cut}
 use Rattle.sre_program.proofs.Tokens.{lacks_token, lacks_group, same_token, same_group}
-
-abbrev Pairs : Type 0
-Pairs = List (ℕ × List ℕ)
 
 -- what may be a pair
 abbrev Is : ℕ → ℕ × List ℕ → Type 0
@@ -28,7 +23,7 @@ tokens pair = 32 ∷ (group_token pair.0 ++ 32 ∷ token pair.1)
 pair_first : (pair : ℕ × List ℕ) (rest : List ℕ) → tokens pair ++ rest ≡ 32 ∷ (group_token pair.0 ++ 32 ∷ (token pair.1 ++ rest))
 pair_first pair rest = ap (λ (l : List ℕ). 32 ∷ l) (append_assoc (group_token pair.0) (32 ∷ token pair.1) rest)
 
-pub stops_pairs : (pairs : List (ℕ × List ℕ)) → StopsAt 32 (pair_tokens pairs)
+stops_pairs : (pairs : List (ℕ × List ℕ)) → StopsAt 32 (pair_tokens pairs)
 stops_pairs [] = inl refl
 stops_pairs (p ∷ pairs) = inr ((group_token p.0 ++ 32 ∷ token p.1) ++ pair_tokens pairs, refl)
 
@@ -41,8 +36,8 @@ lacks_pairs groups (p ∷ pairs) small are =
     let within : p.0 < 2 ^ 64 = omega (arith, first.0) in
     All-append (λ b. b ≢ 10) (tokens p) (pair_tokens pairs)
     (All-cons (λ b. b ≢ 10) 32 (group_token p.0 ++ 32 ∷ token p.1) (omega arith)
-      (All-append (λ b. b ≢ 10) (group_token p.0) (32 ∷ token p.1) (lacks_group 10 p.0 (omega arith) within)
-        (All-cons (λ b. b ≢ 10) 32 (token p.1) (omega arith) (lacks_token 10 p.1 (omega arith) (omega arith)))))
+    (All-append (λ b. b ≢ 10) (group_token p.0) (32 ∷ token p.1) (lacks_group 10 p.0 (omega arith) within)
+    (All-cons (λ b. b ≢ 10) 32 (token p.1) (omega arith) (lacks_token 10 p.1 (omega arith) (omega arith)))))
     (lacks_pairs groups pairs small (All-tail (Is groups) p pairs are))
 
 pub lacks_list : (groups : ℕ) (list : Replacement) → groups < 2 ^ 64 → IsList groups list → Lacks 10 (list_tokens list)
@@ -52,14 +47,14 @@ lacks_list groups list small is =
 
 -- ---- a token is cut off in one way
 
-pub cut_is : (bytes word rest w t : List ℕ) → IsTokenCut bytes word rest → bytes ≡ 32 ∷ (w ++ t) → Lacks 32 w → StopsAt 32 t → (word ≡ w) × (rest ≡ t)
+cut_is : (bytes word rest w t : List ℕ) → IsTokenCut bytes word rest → bytes ≡ 32 ∷ (w ++ t) → Lacks 32 w → StopsAt 32 t → (word ≡ w) × (rest ≡ t)
 cut_is bytes word rest w t cut e lacks stops =
     let both : 32 ∷ (word ++ rest) ≡ 32 ∷ (w ++ t) = sym cut.all ∙ e in
     same_cut 32 word w rest t cut.whole lacks cut.stops stops (ap (drop 1) both)
 
 -- the head was cut off
-pub head_cut : (groups : ℕ) (bytes word rest : List ℕ) (list : Replacement) → IsTokenCut bytes word rest → bytes ≡ list_tokens list → (word ≡ token list.head) × (rest ≡ pair_tokens list.pairs)
-head_cut groups bytes word rest list cut e = cut_is bytes word rest (token list.head) (pair_tokens list.pairs) cut e (lacks_token 32 list.head (omega arith) (omega arith)) (stops_pairs list.pairs)
+pub head_cut : (bytes word rest : List ℕ) (list : Replacement) → IsTokenCut bytes word rest → bytes ≡ list_tokens list → (word ≡ token list.head) × (rest ≡ pair_tokens list.pairs)
+head_cut bytes word rest list cut e = cut_is bytes word rest (token list.head) (pair_tokens list.pairs) cut e (lacks_token 32 list.head (omega arith) (omega arith)) (stops_pairs list.pairs)
 
 -- the token of the first pair's group was cut off
 pub record FirstGroup (groups : ℕ) (word rest : List ℕ) : Type 0 where
@@ -101,7 +96,7 @@ no_pair left (p ∷ pairs) e none = absurd (none ((group_token p.0 ++ 32 ∷ tok
 
 -- ---- one pair more
 
-pub pairs_push : (pairs : List (ℕ × List ℕ)) (p : ℕ × List ℕ) → pair_tokens (pairs ++ p ∷ []) ≡ pair_tokens pairs ++ tokens p
+pairs_push : (pairs : List (ℕ × List ℕ)) (p : ℕ × List ℕ) → pair_tokens (pairs ++ p ∷ []) ≡ pair_tokens pairs ++ tokens p
 pairs_push pairs p = flat_map-append tokens pairs (p ∷ []) ∙ ap (λ (l : List ℕ). pair_tokens pairs ++ l) (append-nil (tokens p))
 
 pub one_more_pair : (all left word rest literal after : List ℕ) (pairs : List (ℕ × List ℕ)) (p : ℕ × List ℕ) → all ≡ pair_tokens pairs ++ left → IsTokenCut left word rest → IsTokenCut rest literal after

@@ -1,5 +1,5 @@
 -- Neither a blank nor a line feed stands in a token, and different texts and numbers have different ones.
-use Rattle.std.proofs.Common.{◌≡◌, ◌≢◌, ℕ, ◌<◌, ◌^◌, true, List, [], ◌∷◌, drop, Result, Ok, sym, ap, ◌∙◌, arith, encode_utf8_all}
+use Rattle.std.proofs.Common.{◌≡◌, ◌≢◌, ℕ, ◌<◌, ◌^◌, true, List, [], drop, Result, Ok, sym, ap, ◌∙◌, arith, encode_utf8_all}
 use Rattle.std.specs.Fmt.{decimal}
 use Rattle.std.specs.Result.{result_unwrap_or}
 use Rattle.std.specs.Str.{all_scalars, chars}

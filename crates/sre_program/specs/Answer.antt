@@ -1,5 +1,5 @@
 -- The answer to a request.
-use Rattle.std.specs.Prelude.{ℕ, codes, List, [], ◌++◌, length}
+use Rattle.std.specs.Prelude.{ℕ, codes, List, ◌++◌, length}
 use Rattle.std.specs.Fmt.{decimal}
 use Rattle.sre_code.specs.PlainTree.{PlainTree}
 use Rattle.sre_match.specs.Matches.{Span, spans}

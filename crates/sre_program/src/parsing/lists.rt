@@ -58,12 +58,7 @@ fn pairs_of(alloc: Global, groups: usize, bytes: &[u8]) -> Result<Vec<Pair>, Par
 }
 
 // The pair that two tokens spell.
-fn pair_in(
-    alloc: Global,
-    groups: usize,
-    group: &[u8],
-    literal: &[u8],
-) -> Result<Pair, ParseError>
+fn pair_in(alloc: Global, groups: usize, group: &[u8], literal: &[u8]) -> Result<Pair, ParseError>
     ensures group { IfOk result (λ p. group.now ≡ group_token p.group) }
     ensures within { IfOk result (λ p. p.group ≤ groups) }
     ensures literal { IfOk result (λ p. literal.now ≡ token p.literal.items) }
