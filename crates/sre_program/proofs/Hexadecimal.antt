@@ -3,7 +3,7 @@ use Rattle.std.proofs.Common.{◌≡◌, ◌≢◌, ℕ, zero, suc, ◌+◌, ◌
 use Rattle.std.specs.Char.{is_ascii_uppercase}
 use Rattle.std.specs.List.{list_any}
 use Rattle.std.specs.Result.{result_unwrap_or}
-use Rattle.std.proofs.lemmas.Bool.{agree_below, agree_below_at, and_parts, cases_lt, eqb-true, ltb-true, or_cases, or_from, or_parts}
+use Rattle.std.proofs.lemmas.Bool.{agree_below, agree_below_at, and_parts, cases_lt, eqb-true, ltb-true, ltb-false, or_cases, or_from, or_parts}
 use Rattle.std.proofs.lemmas.List.Elements.{All-nil, All-cons}
 use Rattle.hex.specs.Hex.{IsBytes, decode_of, decode_pairs, digit_or_error, encode_with, encode_lower, hex_digit_value, lower_digits, pair_value, value_at, ◌>>=◌}
 use Rattle.hex.specs.declared.error.FromHexError.{FromHexError}
@@ -24,15 +24,15 @@ lacks_encoded byte table h (b ∷ bytes) =
     All-cons (λ b. b ≢ byte) (get_or table (b / 16) 0) (get_or table (b % 16) 0 ∷ encode_with table bytes) (h (b / 16))
     (All-cons (λ b. b ≢ byte) (get_or table (b % 16) 0) (encode_with table bytes) (h (b % 16)) (lacks_encoded byte table h bytes))
 
-lacks_by_test : (byte : ℕ) (table : List ℕ) → list_any (λ b. b == byte) table ≡ false → Lacks byte table
-lacks_by_test byte [] h = All-nil (λ b. b ≢ byte)
-lacks_by_test byte (x ∷ table) h =
-    let parts = or_parts (x == byte) (list_any (λ b. b == byte) table) h in
-    let first : (x == byte) ≡ false = parts.0 in
-    All-cons (λ b. b ≢ byte) x table (λ e. grind arith) (lacks_by_test byte table parts.1)
+lacks_by_test : (byte : ℕ) (table : List ℕ) → byte < 48 → list_any (λ b. nat_lt b 48) table ≡ false → Lacks byte table
+lacks_by_test byte [] below h = All-nil (λ b. b ≢ byte)
+lacks_by_test byte (x ∷ table) below h =
+    let parts = or_parts (nat_lt x 48) (list_any (λ b. nat_lt b 48) table) h in
+    let past : 48 ≤ x = ltb-false x 48 parts.0 in
+    All-cons (λ b. b ≢ byte) x table (omega arith) (lacks_by_test byte table below parts.1)
 
-pub lacks_line_feed : (bytes : List ℕ) → Lacks 10 (encode_lower bytes)
-lacks_line_feed bytes = lacks_encoded 10 lower_digits (lacks_digit 10 lower_digits (omega arith) (lacks_by_test 10 lower_digits refl)) bytes
+pub lacks_lower : (byte : ℕ) → 0 < byte → byte < 48 → (bytes : List ℕ) → Lacks byte (encode_lower bytes)
+lacks_lower byte some below bytes = lacks_encoded byte lower_digits (lacks_digit byte lower_digits (omega arith) (lacks_by_test byte lower_digits below refl)) bytes
 
 -- ---- a digit that is no upper-case letter stands in the table at its value
 

@@ -5,7 +5,9 @@ pub mod Bytes
 pub mod Cuts
 pub mod Decimals
 pub mod Hexadecimal
+pub mod Tokens
 pub mod Lines
 pub mod Numbers
+pub mod Lists
 pub mod OneRequest
 pub mod Completeness

@@ -1,15 +1,13 @@
 -- A line at the front is one line.
-use Rattle.std.proofs.Common.{◌≡◌, ◌≢◌, ℕ, List, [], ◌∷◌, ◌++◌, inr, Option, Some, None, Bor, IfSome, IfNone, suc, refl, sym, ap, ◌∙◌, arith, append_assoc, codes}
+use Rattle.std.proofs.Common.{◌≡◌, ℕ, List, [], ◌∷◌, ◌++◌, inr, Option, Some, None, Bor, IfSome, IfNone, suc, refl, sym, ap, ◌∙◌, arith, append_assoc, codes}
 use Rattle.std.proofs.lemmas.List.{append-nil, append_cancel_left}
 use Rattle.sre_program.specs.Cuts.{Lacks}
-use Rattle.std.specs.Prelude.{encode_utf8_all}
 use Rattle.std.specs.Fmt.{decimal}
-use Rattle.std.proofs.lemmas.List.Elements.{All-cons}
-use Rattle.hex.specs.Hex.{encode_lower}
-use Rattle.sre_program.specs.Requests.{Request, IsRequest, line, numbers, token}
+use Rattle.sre_program.specs.Requests.{Request, IsRequest, line, numbers, token, list_tokens}
 use Rattle.sre_program.proofs.Cuts.{same_cut}
 use Rattle.sre_program.proofs.Decimals.{lacks_decimal}
-use Rattle.sre_program.proofs.Hexadecimal.{lacks_line_feed}
+use Rattle.sre_program.proofs.Tokens.{lacks_token}
+use Rattle.sre_program.proofs.Lists.{lacks_list}
 use Rattle.sre_program.proofs.Numbers.{lacks_numbers}
 
 pub line_is : (name value rest : List ℕ) → line name value ++ rest ≡ name ++ (value ++ 10 ∷ rest)
@@ -48,34 +46,31 @@ line_none bytes name behind None e f = λ value rest h is.
 
 -- ---- the lines of a request
 
-lacks_token : (text : List ℕ) → Lacks 10 (token text)
-lacks_token text = All-cons (λ b. b ≢ 10) 116 (encode_lower (encode_utf8_all text)) (omega arith) (lacks_line_feed (encode_utf8_all text))
-
 -- no line feed stands in one
 pub record IsWhole (r : Request) : Type 0 where
   pub pattern : Lacks 10 (token r.pattern)
   pub words : Lacks 10 (numbers r.words)
   pub groups : Lacks 10 (decimal r.groups)
   pub limit : Lacks 10 (decimal r.limit)
-  pub literal : Lacks 10 (token r.literal)
+  pub list : Lacks 10 (list_tokens r.list)
   pub subject : Lacks 10 (token r.subject)
 
 pub whole : (r : Request) → IsRequest r → IsWhole r
 whole r ok = record {
-  pattern = lacks_token r.pattern;
+  pattern = lacks_token 10 r.pattern (omega arith) (omega arith);
   words = lacks_numbers 10 r.words (omega arith) ok.words;
   groups = lacks_decimal 10 r.groups (omega arith) ok.groups;
   limit = lacks_decimal 10 r.limit (omega arith) ok.limit;
-  literal = lacks_token r.literal;
-  subject = lacks_token r.subject;
+  list = lacks_list r.groups r.list ok.groups ok.list;
+  subject = lacks_token 10 r.subject (omega arith) (omega arith);
 }
 
 -- what follows a line
-abbrev pub after_literal : Request → List ℕ
-after_literal r = line (codes "subject ") (token r.subject)
+abbrev pub after_list : Request → List ℕ
+after_list r = line (codes "subject ") (token r.subject)
 
 abbrev pub after_limit : Request → List ℕ
-after_limit r = line (codes "list ") (token r.literal) ++ after_literal r
+after_limit r = line (codes "list") (list_tokens r.list) ++ after_list r
 
 abbrev pub after_groups : Request → List ℕ
 after_groups r = line (codes "limit ") (decimal r.limit) ++ after_limit r
@@ -86,5 +81,5 @@ after_words r = line (codes "groups ") (decimal r.groups) ++ after_groups r
 abbrev pub after_pattern : Request → List ℕ
 after_pattern r = line (codes "code") (numbers r.words) ++ after_words r
 
-pub last_line : (rest : List ℕ) (r : Request) → rest ≡ after_literal r → rest ≡ line (codes "subject ") (token r.subject) ++ []
-last_line rest r e = e ∙ sym (append-nil (after_literal r))
+pub last_line : (rest : List ℕ) (r : Request) → rest ≡ after_list r → rest ≡ line (codes "subject ") (token r.subject) ++ []
+last_line rest r e = e ∙ sym (append-nil (after_list r))

@@ -1,22 +1,17 @@
 -- Different requests have different texts.
-use Rattle.std.proofs.Common.{◌≡◌, ℕ, ◌<◌, ◌^◌, true, List, [], ◌∷◌, ◌++◌, inr, drop, Result, Ok, refl, sym, ap, ◌∙◌, arith, codes, encode_utf8_all}
+use Rattle.std.proofs.Common.{◌≡◌, ℕ, ◌<◌, ◌^◌, List, [], ◌∷◌, ◌++◌, inr, drop, refl, sym, ap, ◌∙◌, arith, codes}
 use Rattle.std.specs.Fmt.{decimal}
-use Rattle.std.specs.Result.{result_unwrap_or}
-use Rattle.std.specs.Str.{all_scalars, chars}
 use Rattle.std.proofs.lemmas.Fmt.{decimal_injective}
 use Rattle.std.proofs.lemmas.List.{append-nil, append_cancel_left}
 use Rattle.std.proofs.lemmas.List.Elements.{All-head, All-tail}
-use Rattle.std.proofs.lemmas.Str.{chars-encodes}
-use Rattle.hex.specs.Hex.{encode_lower, decode_of}
-use Rattle.hex.specs.declared.error.FromHexError.{FromHexError}
-use Rattle.hex.proofs.HexLemmas.{decode_of-encode_lower}
-use Rattle.sre_program.specs.Requests.{Request, IsRequest, line, token, numbers, text_of}
+use Rattle.sre_program.specs.Requests.{Request, IsRequest, line, token, numbers, list_tokens, text_of}
 use Rattle.sre_program.specs.Cuts.{Lacks}
-use Rattle.sre_program.proofs.Bytes.{encodes_bytes}
 use Rattle.sre_program.proofs.Cuts.{same_cut}
 use Rattle.sre_program.proofs.Decimals.{lacks_decimal}
-use Rattle.sre_program.proofs.Lines.{line_is, whole, after_pattern, after_words, after_groups, after_limit, after_literal}
+use Rattle.sre_program.proofs.Lines.{line_is, whole, after_pattern, after_words, after_groups, after_limit, after_list}
 use Rattle.sre_program.proofs.Numbers.{AreWords, stops_numbers}
+use Rattle.sre_program.proofs.Tokens.{same_token}
+use Rattle.sre_program.proofs.Lists.{same_list}
 
 -- two lines of one name tell what stands in them and behind them
 same_line : (name v w r t : List ℕ) → Lacks 10 v → Lacks 10 w → line name v ++ r ≡ line name w ++ t → (v ≡ w) × (r ≡ t)
@@ -24,13 +19,6 @@ same_line name v w r t h k e =
     let behind : v ++ 10 ∷ r ≡ w ++ 10 ∷ t = append_cancel_left name (v ++ 10 ∷ r) (w ++ 10 ∷ t) (sym (line_is name v r) ∙ e ∙ line_is name w t) in
     let same = same_cut 10 v w (10 ∷ r) (10 ∷ t) h k (inr (r, refl)) (inr (t, refl)) behind in
     (same.0, ap (drop 1) same.1)
-
-same_token : (p q : List ℕ) → all_scalars p ≡ true → all_scalars q ≡ true → token p ≡ token q → p ≡ q
-same_token p q h k e =
-    let digits : encode_lower (encode_utf8_all p) ≡ encode_lower (encode_utf8_all q) = ap (drop 1) e in
-    let bytes : Ok (encode_utf8_all p) ≡ Ok (encode_utf8_all q) = sym (decode_of-encode_lower (encode_utf8_all p) (encodes_bytes p h)) ∙ ap decode_of digits ∙ decode_of-encode_lower (encode_utf8_all q) (encodes_bytes q k) in
-    let text : encode_utf8_all p ≡ encode_utf8_all q = ap (λ (r : Result (List ℕ) FromHexError). result_unwrap_or r []) bytes in
-    sym (chars-encodes p h) ∙ ap chars text ∙ chars-encodes q k
 
 cons_same : (x y : ℕ) (xs ys : List ℕ) → x ≡ y → xs ≡ ys → x ∷ xs ≡ y ∷ ys
 cons_same x y xs ys e f = λ i. e i ∷ f i
@@ -46,8 +34,8 @@ same_numbers (w ∷ ws) (v ∷ vs) h k e =
     let same = same_cut 32 (decimal w) (decimal v) (numbers ws) (numbers vs) (lacks_decimal 32 w (omega arith) (omega arith)) (lacks_decimal 32 v (omega arith) (omega arith)) (stops_numbers ws) (stops_numbers vs) behind in
     cons_same w v ws vs (decimal_injective w v (omega arith) (omega arith) same.0) (same_numbers ws vs (All-tail (λ x. x < 2 ^ 32) w ws h) (All-tail (λ x. x < 2 ^ 32) v vs k) same.1)
 
-request_same : (r q : Request) → r.pattern ≡ q.pattern → r.words ≡ q.words → r.groups ≡ q.groups → r.limit ≡ q.limit → r.literal ≡ q.literal → r.subject ≡ q.subject → r ≡ q
-request_same r q a b c d e f = λ i. record { pattern = a i; words = b i; groups = c i; limit = d i; literal = e i; subject = f i }
+request_same : (r q : Request) → r.pattern ≡ q.pattern → r.words ≡ q.words → r.groups ≡ q.groups → r.limit ≡ q.limit → r.list ≡ q.list → r.subject ≡ q.subject → r ≡ q
+request_same r q a b c d e f = λ i. record { pattern = a i; words = b i; groups = c i; limit = d i; list = e i; subject = f i }
 
 pub one_request : (r q : Request) → IsRequest r → IsRequest q → text_of r ≡ text_of q → r ≡ q
 one_request r q h k e =
@@ -57,12 +45,12 @@ one_request r q h k e =
     let words = same_line (codes "code") (numbers r.words) (numbers q.words) (after_words r) (after_words q) l.words m.words pattern.1 in
     let groups = same_line (codes "groups ") (decimal r.groups) (decimal q.groups) (after_groups r) (after_groups q) l.groups m.groups words.1 in
     let limit = same_line (codes "limit ") (decimal r.limit) (decimal q.limit) (after_limit r) (after_limit q) l.limit m.limit groups.1 in
-    let literal = same_line (codes "list ") (token r.literal) (token q.literal) (after_literal r) (after_literal q) l.literal m.literal limit.1 in
-    let subject = same_line (codes "subject ") (token r.subject) (token q.subject) [] [] l.subject m.subject (append-nil (after_literal r) ∙ literal.1 ∙ sym (append-nil (after_literal q))) in
+    let list = same_line (codes "list") (list_tokens r.list) (list_tokens q.list) (after_list r) (after_list q) l.list m.list limit.1 in
+    let subject = same_line (codes "subject ") (token r.subject) (token q.subject) [] [] l.subject m.subject (append-nil (after_list r) ∙ list.1 ∙ sym (append-nil (after_list q))) in
     request_same r q
     (same_token r.pattern q.pattern h.pattern k.pattern pattern.0)
     (same_numbers r.words q.words h.words k.words words.0)
     (decimal_injective r.groups q.groups h.groups k.groups groups.0)
     (decimal_injective r.limit q.limit h.limit k.limit limit.0)
-    (same_token r.literal q.literal h.literal k.literal literal.0)
+    (same_list r.groups q.groups r.list q.list h.groups k.groups h.list k.list list.0)
     (same_token r.subject q.subject h.subject k.subject subject.0)

@@ -1,13 +1,16 @@
 -- Texts of characters, and the text of a subject with its spans replaced.
-use Rattle.std.proofs.Common.{◌≡◌, ℕ, zero, suc, ◌+◌, ◌-◌, ◌<◌, Bool, true, false, ◌&&◌, List, [], ◌∷◌, ◌++◌, length, get_or, take, drop, refl, sym, ap, ◌∙◌, arith, encode_utf8, encode_utf8_all}
+use Rattle.std.proofs.Common.{◌≡◌, ℕ, zero, suc, ◌+◌, ◌-◌, ◌<◌, ◌≤◌, Bool, true, false, ◌&&◌, List, [], ◌∷◌, ◌++◌, length, get_or, take, drop, Option, Some, None, refl, sym, ap, ◌∙◌, arith, encode_utf8, encode_utf8_all}
 use Rattle.std.specs.Prelude.{slice_range}
 use Rattle.std.specs.Str.{all_scalars}
 use Rattle.std.specs.Char.{IsScalar}
 use Rattle.std.proofs.Math.Utf8.{scalar}
 use Rattle.std.proofs.lemmas.List.{append-nil, take_more}
+use Rattle.std.proofs.lemmas.List.Elements.{All-head, All-tail}
 use Rattle.std.proofs.lemmas.Str.{encodes-append}
 use Rattle.sre_match.specs.Matches.{Span}
-use Rattle.sre_match.specs.Filling.{fill, result_from}
+use Rattle.sre_match.specs.Filling.{Replacement, group_span, text_between, group_text, fill_pairs, fill, result_from}
+use Rattle.sre_program.specs.Requests.{IsList}
+use Rattle.sre_program.specs.Pairs.{ArePairs}
 
 -- one character more
 pub push_more : (was new : List ℕ) (units : List ℕ) (i c : ℕ) → i < length units → c ≡ get_or units i 0 → was ≡ encode_utf8_all (take i units) → new ≡ was ++ encode_utf8 c → new ≡ encode_utf8_all (take (i + 1) units)
@@ -39,10 +42,26 @@ scalars_drop zero xs h = h
 scalars_drop (suc n) [] h = refl
 scalars_drop (suc n) (x ∷ xs) h = scalars_drop n xs (both (scalar x) (all_scalars xs) h).1
 
--- a text with spans replaced by a text is a text
-pub scalars_result : (q : ℕ) (s : List ℕ) (xs : List Span) (lit : List ℕ) → all_scalars s ≡ true → all_scalars lit ≡ true → all_scalars (result_from q s xs (record { head = lit; pairs = [] })) ≡ true
-scalars_result q s [] lit h k = scalars_drop q s h
-scalars_result q s (x ∷ xs) lit h k =
-    scalars_append (slice_range s q x.start) (fill (record { head = lit; pairs = [] }) s x ++ result_from x.stop s xs (record { head = lit; pairs = [] }))
+scalars_between : (s : List ℕ) (at : Option (ℕ × ℕ)) → all_scalars s ≡ true → all_scalars (text_between s at) ≡ true
+scalars_between s None h = refl
+scalars_between s (Some at) h = scalars_take (at.1 - at.0) (drop at.0 s) (scalars_drop at.0 s h)
+
+scalars_pairs : (groups : ℕ) (pairs : List (ℕ × List ℕ)) (s : List ℕ) (x : Span) → all_scalars s ≡ true → ArePairs groups pairs → all_scalars (fill_pairs pairs s x) ≡ true
+scalars_pairs groups [] s x h are = refl
+scalars_pairs groups (p ∷ pairs) s x h are =
+    let first : (p.0 ≤ groups) × (all_scalars p.1 ≡ true) = All-head (λ (pair : ℕ × List ℕ). (pair.0 ≤ groups) × (all_scalars pair.1 ≡ true)) p pairs are in
+    let more = All-tail (λ (pair : ℕ × List ℕ). (pair.0 ≤ groups) × (all_scalars pair.1 ≡ true)) p pairs are in
+    scalars_append (group_text s x p.0) (p.1 ++ fill_pairs pairs s x) (scalars_between s (group_span x p.0) h)
+    (scalars_append p.1 (fill_pairs pairs s x) first.1 (scalars_pairs groups pairs s x h more))
+
+-- a list that is filled from a text is a text
+scalars_fill : (groups : ℕ) (list : Replacement) (s : List ℕ) (x : Span) → all_scalars s ≡ true → IsList groups list → all_scalars (fill list s x) ≡ true
+scalars_fill groups list s x h is = scalars_append list.head (fill_pairs list.pairs s x) is.head (scalars_pairs groups list.pairs s x h is.pairs)
+
+-- a text with its spans replaced is a text
+pub scalars_result : (groups q : ℕ) (s : List ℕ) (xs : List Span) (list : Replacement) → all_scalars s ≡ true → IsList groups list → all_scalars (result_from q s xs list) ≡ true
+scalars_result groups q s [] list h is = scalars_drop q s h
+scalars_result groups q s (x ∷ xs) list h is =
+    scalars_append (slice_range s q x.start) (fill list s x ++ result_from x.stop s xs list)
     (scalars_take (x.start - q) (drop q s) (scalars_drop q s h))
-    (scalars_append (lit ++ []) (result_from x.stop s xs (record { head = lit; pairs = [] })) (scalars_append lit [] k refl) (scalars_result x.stop s xs lit h k))
+    (scalars_append (fill list s x) (result_from x.stop s xs list) (scalars_fill groups list s x h is) (scalars_result groups x.stop s xs list h is))

@@ -1,14 +1,10 @@
 -- The answer to a request.
-use Rattle.std.specs.Prelude.{ℕ, codes, List, [], ◌++◌, length}
+use Rattle.std.specs.Prelude.{ℕ, codes, List, ◌++◌, length}
 use Rattle.std.specs.Fmt.{decimal}
 use Rattle.sre_code.specs.PlainTree.{PlainTree}
 use Rattle.sre_match.specs.Matches.{Span, spans}
-use Rattle.sre_match.specs.Filling.{Replacement, result_of}
+use Rattle.sre_match.specs.Filling.{result_of}
 use Rattle.sre_program.specs.Requests.{Request, token}
-
--- a list of one literal, which has no group
-abbrev pub replacement_of : Request → Replacement
-replacement_of r = record { head = r.literal; pairs = [] }
 
 -- the spans that are replaced
 abbrev pub spans_of_request : Request → PlainTree → List Span
@@ -17,7 +13,7 @@ spans_of_request r t = spans t r.subject 0 r.limit
 -- the token of the subject with its spans replaced, a blank, how many there were, and a line's end
 abbrev pub answer_of : Request → PlainTree → List ℕ
 answer_of r t =
-    token (result_of r.subject (spans_of_request r t) (replacement_of r)) ++ (codes " " ++ (decimal (length (spans_of_request r t)) ++ codes "\n"))
+    token (result_of r.subject (spans_of_request r t) r.list) ++ (codes " " ++ (decimal (length (spans_of_request r t)) ++ codes "\n"))
 
 -- the line that says that the words spell no tree
 abbrev pub not_built_line : List ℕ

@@ -1,4 +1,5 @@
 pub mod Requests
+pub mod Pairs
 pub mod Substitution
 pub mod Cuts
 pub mod Lines

@@ -1,7 +1,7 @@
 -- The six lines of a request.
 use Rattle.std.specs.Prelude.{ℕ, List, ◌++◌, codes}
 use Rattle.std.specs.Fmt.{decimal}
-use Rattle.sre_program.specs.Requests.{Request, token, numbers, line}
+use Rattle.sre_program.specs.Requests.{Request, token, numbers, list_tokens, line}
 use Rattle.sre_program.specs.declared.parsing.lines.Lines.{Lines}
 
 -- what stands in each line, behind its name
@@ -10,7 +10,7 @@ pub record LineTexts : Type 0 where
   pub words : List ℕ
   pub groups : List ℕ
   pub limit : List ℕ
-  pub literal : List ℕ
+  pub list : List ℕ
   pub subject : List ℕ
 
 -- the lines, in order
@@ -20,7 +20,7 @@ in_lines t =
     ++ (line (codes "code") t.words
     ++ (line (codes "groups ") t.groups
     ++ (line (codes "limit ") t.limit
-    ++ (line (codes "list ") t.literal
+    ++ (line (codes "list") t.list
     ++ line (codes "subject ") t.subject))))
 
 -- of a request
@@ -30,7 +30,7 @@ texts_of r = record {
   words = numbers r.words;
   groups = decimal r.groups;
   limit = decimal r.limit;
-  literal = token r.literal;
+  list = list_tokens r.list;
   subject = token r.subject;
 }
 
@@ -41,6 +41,6 @@ texts_in l = record {
   words = l.words.now;
   groups = l.groups.now;
   limit = l.limit.now;
-  literal = l.literal.now;
+  list = l.list.now;
   subject = l.subject.now;
 }

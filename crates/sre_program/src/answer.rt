@@ -6,10 +6,11 @@ ghost use Rattle.sre_match.specs.Matches.{if_found, next_span, spans};
 ghost use Rattle.sre_match.specs.Search.{stands_behind};
 ghost use Rattle.sre_match.specs.Filling.{result_of};
 ghost use Rattle.sre_program.specs.Requests.{IsRequest};
-ghost use Rattle.sre_program.specs.Substitution.{request_of};
-ghost use Rattle.sre_program.specs.Answer.{answer_of, replacement_of, spans_of_request};
+ghost use Rattle.sre_program.specs.Substitution.{request_of, replacement_of};
+ghost use Rattle.sre_program.specs.Answer.{answer_of, spans_of_request};
 ghost use Rattle.sre_program.specs.Wanted.{is_reached, up_to};
 
+use crate::filling::fill;
 use crate::substitution::Substitution;
 use py_base::Steps;
 use sre_code::Checked;
@@ -48,7 +49,7 @@ fn replaced<L: Ledger>(
     code: &Checked,
     steps: &mut Steps<L>,
 ) -> Result<(Vec<u32>, usize), MatchError>
-    ensures units { IfOk result (λ x. x.0.items ≡ result_of asked.now.subject.items (spans_of_request (request_of asked.now) code.now.tree) (replacement_of (request_of asked.now))) }
+    ensures units { IfOk result (λ x. x.0.items ≡ result_of asked.now.subject.items (spans_of_request (request_of asked.now) code.now.tree) (replacement_of asked.now.template)) }
     ensures count { IfOk result (λ x. x.1 ≡ length (spans_of_request (request_of asked.now) code.now.tree)) }
 {
     let subject = asked.subject.as_slice();
@@ -59,7 +60,7 @@ fn replaced<L: Ledger>(
     let mut count = 0usize;
     while has_next(&mut walk, asked.limit, count, steps)? {
         units.extend_from_slice(&subject[place..walk.state().start()])?;
-        units.extend_from_slice(asked.literal.as_slice())?;
+        fill(&mut units, &asked.template, subject, walk.state())?;
         place = walk.state().position();
         count += 1;
     }

@@ -6,6 +6,7 @@ ghost use Rattle.std.specs.Prelude.{◌≡◌, ◌<◌};
 mod answer;
 mod edge;
 mod ending;
+mod filling;
 mod input;
 pub mod laws;
 mod parsing;

@@ -5,9 +5,11 @@ ghost use Rattle.sre_program.specs.Requests.{Request, IsRequest, text_of};
 ghost use Rattle.sre_program.specs.Substitution.{request_of};
 
 mod lines;
+mod lists;
 mod tokens;
 
 use self::lines::lines_of;
+use self::lists::list_of;
 use self::tokens::{number_of, numbers_of, text_of};
 use crate::substitution::Substitution;
 use hex::FromHexError;
@@ -77,17 +79,18 @@ pub fn parse(alloc: Global, bytes: &[u8]) -> Result<Substitution, ParseError>
     let Some(groups) = number_of(lines.groups) else {
         return Err(ParseError::Malformed);
     };
+    let groups = groups as usize;
     let Some(limit) = number_of(lines.limit) else {
         return Err(ParseError::Malformed);
     };
-    let literal = text_of(alloc, lines.literal)?;
+    let template = list_of(alloc, groups, lines.list)?;
     let subject = text_of(alloc, lines.subject)?;
     Ok(Substitution {
         pattern,
         words,
-        groups: groups as usize,
+        groups,
         limit: limit as usize,
-        literal,
+        template,
         subject,
     })
 }

@@ -1,6 +1,21 @@
 //! A request of substitution.
 
-/// A code, the subject that is searched for it, and what stands in the place of each span. Texts are
+/// The number of a group, or 0 for the whole span, and the literal behind it.
+#[derive(Debug, Drop)]
+pub struct Pair {
+    pub group: usize,
+    pub literal: Vec<u32>,
+}
+
+/// A replacement list: a literal, and then pairs of a group and a literal. Literals are their code
+/// points.
+#[derive(Debug, Drop)]
+pub struct Template {
+    pub head: Vec<u32>,
+    pub pairs: Vec<Pair>,
+}
+
+/// A code, the subject that is searched for it, and the list that is filled for each span. Texts are
 /// their code points.
 #[derive(Debug, Drop)]
 pub struct Substitution {
@@ -8,6 +23,6 @@ pub struct Substitution {
     pub words: Vec<u32>,
     pub groups: usize,
     pub limit: usize,
-    pub literal: Vec<u32>,
+    pub template: Template,
     pub subject: Vec<u32>,
 }

@@ -12,7 +12,7 @@ pub struct Lines<'b> {
     pub words: &'b [u8],
     pub groups: &'b [u8],
     pub limit: &'b [u8],
-    pub literal: &'b [u8],
+    pub list: &'b [u8],
     pub subject: &'b [u8],
 }
 
@@ -45,7 +45,7 @@ pub fn lines_of(bytes: &[u8]) -> Option<Lines<'_>>
     let (words, rest) = field(rest, b"code")?;
     let (groups, rest) = field(rest, b"groups ")?;
     let (limit, rest) = field(rest, b"limit ")?;
-    let (literal, rest) = field(rest, b"list ")?;
+    let (list, rest) = field(rest, b"list")?;
     let (subject, rest) = field(rest, b"subject ")?;
     if !rest.is_empty() {
         return None;
@@ -55,7 +55,7 @@ pub fn lines_of(bytes: &[u8]) -> Option<Lines<'_>>
         words,
         groups,
         limit,
-        literal,
+        list,
         subject,
     })
 }

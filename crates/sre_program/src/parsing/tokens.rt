@@ -41,8 +41,8 @@ fn word_of(bytes: &[u8]) -> Option<u32>
     u32::try_from(number_of(bytes)?).ok()
 }
 
-// What stands before the first blank, and the bytes from that blank on.
-fn split_at_blank(bytes: &[u8]) -> (&[u8], &[u8])
+/// What stands before the first blank, and the bytes from that blank on.
+pub fn split_at_blank(bytes: &[u8]) -> (&[u8], &[u8])
     ensures all { bytes.now ≡ result.0.now ++ result.1.now }
     ensures first { Lacks 32 result.0.now }
     ensures rest { StopsAt 32 result.1.now }

@@ -1,7 +1,6 @@
 use Rattle.std.proofs.Common.{◌≡◌}
 use Rattle.sre_match.proofs.Spans.{turns}
-use Rattle.sre_program.specs.Substitution.{request_of}
-use Rattle.sre_program.specs.Answer.{replacement_of}
+use Rattle.sre_program.specs.Substitution.{replacement_of}
 use Rattle.sre_program.proofs.Walks.{Copied}
 use Rattle.sre_program.proofs.answer.replaced.Given as goal
 
@@ -9,7 +8,7 @@ abbrev pub invariant-loop-units : goal.invariant-loop-units
 invariant-loop-units g l = record {
   tree : l.walk.search.tree ≡ l.code.tree;
   subject : l.walk.search.subject ≡ l.subject;
-  copied : Copied (replacement_of (request_of l.asked)) l.subject l.code.tree l.asked.limit l.count l.walk.standing l.place l.units.items;
+  copied : Copied (replacement_of l.asked.template) l.subject l.code.tree l.asked.limit l.count l.walk.standing l.place l.units.items;
 }
 
 abbrev pub decreases-loop-units : goal.decreases-loop-units

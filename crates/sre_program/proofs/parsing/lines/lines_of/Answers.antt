@@ -1,8 +1,8 @@
 use Rattle.std.proofs.Common.{[], refl}
 use Rattle.std.specs.Fmt.{decimal}
-use Rattle.sre_program.specs.Requests.{token, numbers}
+use Rattle.sre_program.specs.Requests.{token, numbers, list_tokens}
 use Rattle.sre_program.proofs.Cuts.{not_empty}
-use Rattle.sre_program.proofs.Lines.{whole, after_pattern, after_words, after_groups, after_limit, after_literal, last_line}
+use Rattle.sre_program.proofs.Lines.{whole, after_pattern, after_words, after_groups, after_limit, after_list, last_line}
 use Rattle.sre_program.proofs.parsing.lines.lines_of.Goals as goal
 
 pub returns-in_err-pattern-clause-none : goal.returns-in_err-pattern-clause-none
@@ -31,14 +31,14 @@ returns-in_err-limit-clause-none c = rw c.from_residual-in_err-limit.ensures (λ
     let in_groups = c.in_ok-groups.ensures.only (decimal r.groups) (after_groups r) h.groups in_words.1 in
     c.in_err-limit.ensures.none (decimal r.limit) (after_limit r) h.limit in_groups.1)
 
-pub returns-in_err-literal-clause-none : goal.returns-in_err-literal-clause-none
-returns-in_err-literal-clause-none c = rw c.from_residual-in_err-literal.ensures (λ r ok e.
+pub returns-in_err-list-clause-none : goal.returns-in_err-list-clause-none
+returns-in_err-list-clause-none c = rw c.from_residual-in_err-list.ensures (λ r ok e.
     let h = whole r ok in
     let in_pattern = c.in_ok-pattern.ensures.only (token r.pattern) (after_pattern r) h.pattern e in
     let in_words = c.in_ok-words.ensures.only (numbers r.words) (after_words r) h.words in_pattern.1 in
     let in_groups = c.in_ok-groups.ensures.only (decimal r.groups) (after_groups r) h.groups in_words.1 in
     let in_limit = c.in_ok-limit.ensures.only (decimal r.limit) (after_limit r) h.limit in_groups.1 in
-    c.in_err-literal.ensures.none (token r.literal) (after_literal r) h.literal in_limit.1)
+    c.in_err-list.ensures.none (list_tokens r.list) (after_list r) h.list in_limit.1)
 
 pub returns-in_err-subject-clause-none : goal.returns-in_err-subject-clause-none
 returns-in_err-subject-clause-none c = rw c.from_residual-in_err-subject.ensures (λ r ok e.
@@ -47,8 +47,8 @@ returns-in_err-subject-clause-none c = rw c.from_residual-in_err-subject.ensures
     let in_words = c.in_ok-words.ensures.only (numbers r.words) (after_words r) h.words in_pattern.1 in
     let in_groups = c.in_ok-groups.ensures.only (decimal r.groups) (after_groups r) h.groups in_words.1 in
     let in_limit = c.in_ok-limit.ensures.only (decimal r.limit) (after_limit r) h.limit in_groups.1 in
-    let in_literal = c.in_ok-literal.ensures.only (token r.literal) (after_literal r) h.literal in_limit.1 in
-    let end = last_line c.in_ok-literal.rest.now r in_literal.1 in
+    let in_list = c.in_ok-list.ensures.only (list_tokens r.list) (after_list r) h.list in_limit.1 in
+    let end = last_line c.in_ok-list.rest.now r in_list.1 in
     c.in_err-subject.ensures.none (token r.subject) [] h.subject end)
 
 pub returns-then-not-is_empty-clause-none : goal.returns-then-not-is_empty-clause-none
@@ -58,8 +58,8 @@ returns-then-not-is_empty-clause-none c = λ r ok e.
     let in_words = c.in_ok-words.ensures.only (numbers r.words) (after_words r) h.words in_pattern.1 in
     let in_groups = c.in_ok-groups.ensures.only (decimal r.groups) (after_groups r) h.groups in_words.1 in
     let in_limit = c.in_ok-limit.ensures.only (decimal r.limit) (after_limit r) h.limit in_groups.1 in
-    let in_literal = c.in_ok-literal.ensures.only (token r.literal) (after_literal r) h.literal in_limit.1 in
-    let end = last_line c.in_ok-literal.rest.now r in_literal.1 in
+    let in_list = c.in_ok-list.ensures.only (list_tokens r.list) (after_list r) h.list in_limit.1 in
+    let end = last_line c.in_ok-list.rest.now r in_list.1 in
     let in_subject = c.in_ok-subject.ensures.only (token r.subject) [] h.subject end in
     not_empty c.in_ok-subject.rest.now c.is_empty.result c.is_empty.ensures c.if-not-is_empty.true in_subject.1
 
@@ -70,7 +70,7 @@ returns-clause-only c = λ r ok e.
     let in_words = c.in_ok-words.ensures.only (numbers r.words) (after_words r) h.words in_pattern.1 in
     let in_groups = c.in_ok-groups.ensures.only (decimal r.groups) (after_groups r) h.groups in_words.1 in
     let in_limit = c.in_ok-limit.ensures.only (decimal r.limit) (after_limit r) h.limit in_groups.1 in
-    let in_literal = c.in_ok-literal.ensures.only (token r.literal) (after_literal r) h.literal in_limit.1 in
-    let end = last_line c.in_ok-literal.rest.now r in_literal.1 in
+    let in_list = c.in_ok-list.ensures.only (list_tokens r.list) (after_list r) h.list in_limit.1 in
+    let end = last_line c.in_ok-list.rest.now r in_list.1 in
     let in_subject = c.in_ok-subject.ensures.only (token r.subject) [] h.subject end in
-    rw (in_pattern.0, in_words.0, in_groups.0, in_limit.0, in_literal.0, in_subject.0) refl
+    rw (in_pattern.0, in_words.0, in_groups.0, in_limit.0, in_list.0, in_subject.0) refl
