@@ -1,3 +1,11 @@
-pub mod Info
-pub mod Spelled
 pub mod Views
+pub mod Lists
+pub mod Reader
+pub mod Spelled
+pub mod Readings
+pub mod Shapes
+pub mod KindLaws
+pub mod SetLaws
+pub mod WholeLaws
+pub mod Choices
+pub mod Alternatives

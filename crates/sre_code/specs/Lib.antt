@@ -1,6 +1,13 @@
 pub mod PlainTree
+pub mod TreeCode
 pub mod TreeView
+pub mod TreeFalls
+pub mod Places
 pub mod Spelling
 pub mod Code
 pub mod Laws
 pub mod Rows
+pub mod Reading
+pub mod SetReading
+pub mod AlternativesReading
+pub mod ChoiceReading

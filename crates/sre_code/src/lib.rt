@@ -5,9 +5,13 @@ mod checked;
 mod decoding;
 mod error;
 pub mod laws;
+mod set;
+#[cfg(test)]
+mod tests;
 mod tree;
 
 pub use checked::Checked;
 pub use decoding::decode;
 pub use error::CodeError;
-pub use tree::{Node, Tree};
+pub use set::{Items, SetItem, Words};
+pub use tree::{Node, RepeatKind, Tree, Trees};

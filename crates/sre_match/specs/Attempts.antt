@@ -1,5 +1,5 @@
 -- Attempts at a match, the marks of their paths, and lists of them.
-use Rattle.std.specs.Prelude.{ℕ, ◌+◌, ◌==◌, Bool, if◌then◌else◌, List, [], ◌∷◌, ◌++◌, Option, Some, None}
+use Rattle.std.specs.Prelude.{ℕ, ◌+◌, ◌==◌, Bool, true, false, if◌then◌else◌, List, [], ◌∷◌, ◌++◌, Option, Some, None}
 use Rattle.sre_match.specs.declared.marks.Closed.{Closed}
 
 -- the groups that a path has closed, the last one at the end
@@ -60,20 +60,32 @@ cut [] = []
 cut (failed c ∷ rest) = failed c ∷ cut rest
 cut (passed c e m ∷ rest) = passed c e m ∷ []
 
--- the ends and marks of the attempts that passed, in order
-abbrev pub outcomes : List Attempt → List (ℕ × Marks)
-outcomes [] = []
-outcomes (failed c ∷ rest) = outcomes rest
-outcomes (passed c e m ∷ rest) = (e, m) ∷ outcomes rest
+-- each passed attempt closes group g, which began at p
+abbrev pub closed_from : ℕ → ℕ → List Attempt → List Attempt
+closed_from g p [] = []
+closed_from g p (failed c ∷ rest) = failed c ∷ closed_from g p rest
+closed_from g p (passed c e m ∷ rest) = passed c e (m ++ record { group = g; start = p; stop = e } ∷ []) ∷ closed_from g p rest
+
+-- each passed attempt ends at p
+abbrev pub back_to : ℕ → List Attempt → List Attempt
+back_to p [] = []
+back_to p (failed c ∷ rest) = failed c ∷ back_to p rest
+back_to p (passed c e m ∷ rest) = passed c p m ∷ back_to p rest
+
+-- what passed fails; where nothing passed, it passes here at the end, at no cost
+abbrev pub refused : ℕ → Marks → List Attempt → List Attempt
+refused p m [] = stay p m
+refused p m (failed c ∷ rest) = failed c ∷ refused p m rest
+refused p m (passed c e n ∷ rest) = failed c ∷ []
 
 -- the first passed attempt whose end is allowed
 abbrev pub chosen : (ℕ → Bool) → List Attempt → Option (ℕ × Marks)
 chosen allowed [] = None
 chosen allowed (failed c ∷ rest) = chosen allowed rest
-chosen allowed (passed c e m ∷ rest) = if allowed e then Some (e, m) else chosen allowed rest
+chosen allowed (passed c e m ∷ rest) = elim (allowed e) [ true ↦ Some (e, m) | false ↦ chosen allowed rest ]
 
 -- the cost up to and with that attempt, or of all where there is none
 abbrev pub cost_of : (ℕ → Bool) → List Attempt → ℕ
 cost_of allowed [] = 0
 cost_of allowed (failed c ∷ rest) = c + cost_of allowed rest
-cost_of allowed (passed c e m ∷ rest) = c + (if allowed e then 0 else cost_of allowed rest)
+cost_of allowed (passed c e m ∷ rest) = elim (allowed e) [ true ↦ c | false ↦ c + cost_of allowed rest ]

@@ -1,9 +1,12 @@
 pub mod Cursor
 pub mod Attempts
 pub mod Repeats
+pub mod Members
+pub mod Places
 pub mod Paths
 pub mod Matches
 pub mod Search
 pub mod Filling
 pub mod Laws
+pub mod Machine
 pub mod Rows

@@ -1,7 +1,8 @@
 -- What contracts see of a request, and of a walk over the spans of its subject.
 use Rattle.std.specs.Prelude.{ℕ, ◌+◌, nat_lt, min, Bool, if◌then◌else◌, List, length, take, Option, Some, None, refl}
 use Rattle.std.specs.Coded.{Coded, code_by, coded×, coded_ℕ, coded_bool, coded_list}
-use Rattle.sre_code.specs.PlainTree.{PlainTree, plain_tree_code}
+use Rattle.sre_code.specs.PlainTree.{PlainTree}
+use Rattle.sre_code.specs.TreeCode.{plain_tree_code}
 use Rattle.sre_match.specs.declared.marks.Closed.{Closed}
 use Rattle.sre_match.specs.Matches.{Span, is_empty_span}
 

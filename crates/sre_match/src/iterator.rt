@@ -1,13 +1,14 @@
 //! The spans of a subject, one after another.
 
-ghost use Rattle.std.specs.Prelude.{◌≡◌, false, IfOk, OnErr, [], OnOk};
-ghost use Rattle.sre_match.specs.Matches.{if_found, next_span};
+ghost use Rattle.std.specs.Prelude.{◌≡◌, ◌≤◌, ◌+◌, false, IfOk, OnErr, [], OnOk};
+ghost use Rattle.sre_match.specs.Matches.{if_found, next_span, next_reads};
 ghost use Rattle.sre_match.specs.Search.{Standing, stands_behind};
 
-use crate::attempts::next_ends;
 use crate::error::MatchError;
 use crate::request::Request;
+use crate::search::next_ends;
 use crate::state::State;
+use crate::trail::{Trail, new_trail};
 use crate::view::StrDrive;
 use py_base::Steps;
 use std::alloc::Global;
@@ -20,6 +21,7 @@ use std::sync::ledger::Ledger;
 pub struct SearchIter<'c, S: StrDrive> {
     request: Request<'c, S>,
     state: State,
+    trail: Trail<'c>,
     place: usize,
     advance: bool,
 }
@@ -50,6 +52,7 @@ impl<'c, S: StrDrive> SearchIter<'c, S> {
             place: request.start,
             request,
             state: State::new(alloc),
+            trail: new_trail(alloc),
             advance: false,
         }
     }
@@ -64,13 +67,20 @@ impl<'c, S: StrDrive> SearchIter<'c, S> {
         ensures moved { OnOk result (self.new.standing ≡ stands_behind (next_span self.old.search.tree self.old.search.subject self.old.standing.place self.old.standing.advance false) self.old.standing) }
         ensures refused { OnErr result (self.new.standing ≡ self.old.standing) }
         ensures search { self.new.search ≡ self.old.search }
+        ensures cost { steps.new ≤ steps.old + next_reads self.old.search.tree self.old.search.subject self.old.standing.place self.old.standing.advance false }
     {
-        match next_ends(&self.request, self.place, self.advance, steps) {
+        match next_ends(
+            &self.request,
+            &mut self.trail,
+            self.place,
+            self.advance,
+            steps,
+        )? {
             None => Ok(false),
             Some((start, stop)) => {
                 self.place = stop;
                 self.advance = start == stop;
-                self.state.hold(start, stop);
+                self.state.hold(start, stop, &mut self.trail.marks);
                 Ok(true)
             }
         }

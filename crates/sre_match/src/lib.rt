@@ -1,13 +1,22 @@
 //! Views of a subject, and the search in it for the spans of a tree.
 #![tactic(auto)]
 
-mod attempts;
+mod copies;
 mod error;
 mod iterator;
 pub mod laws;
+mod machine;
 mod marks;
+mod nodes;
+mod places;
+mod repeats;
 mod request;
+mod search;
+mod sets;
 mod state;
+mod trail;
+mod turns;
+mod units;
 mod view;
 
 pub use error::MatchError;
@@ -16,3 +25,6 @@ pub use marks::{Closed, Marks};
 pub use request::Request;
 pub use state::State;
 pub use view::{PlaceView, StrDrive, StringCursor};
+
+#[cfg(test)]
+mod tests;

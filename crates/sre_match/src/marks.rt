@@ -5,6 +5,7 @@ ghost use Rattle.sre_match.specs.Attempts.{span_of, last_group};
 
 use std::alloc::Global;
 use std::marker::Model;
+use std::mem;
 
 /// A group that was closed, with its span in places.
 #[derive(Clone, Copy, PartialEq, Eq, Debug)]
@@ -40,11 +41,12 @@ impl Marks {
         }
     }
 
-    /// Forgets all closings.
-    pub(crate) fn clear(&mut self)
-        ensures { self.new ≡ [] }
+    /// Takes these closings, and leaves those that it had.
+    pub(crate) fn swap(&mut self, closed: &mut Vec<Closed>)
+        ensures taken { self.new ≡ closed.old.items }
+        ensures left { closed.new.items ≡ self.old }
     {
-        self.closed.clear();
+        mem::swap(&mut self.closed, closed);
     }
 
     /// The span of a group from 1, in places, where it is set.
@@ -72,8 +74,8 @@ fn last_in(closed: &[Closed]) -> Option<usize>
     }
 }
 
-// The span of a group's last closing.
-fn span_in(closed: &[Closed], group: usize) -> Option<(usize, usize)>
+/// The span of a group's last closing.
+pub(crate) fn span_in(closed: &[Closed], group: usize) -> Option<(usize, usize)>
     ensures { result ≡ span_of closed.now group }
 {
     let mut count = closed.len();

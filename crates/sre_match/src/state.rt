@@ -1,12 +1,13 @@
 //! The last match.
 
-ghost use Rattle.std.specs.Prelude.{◌≡◌, [], IfOk, option_map};
-ghost use Rattle.sre_match.specs.Matches.{if_found, span_at, first_allowed, next_span};
+ghost use Rattle.std.specs.Prelude.{◌≡◌, ◌≤◌, ◌+◌, [], IfOk, option_map};
+ghost use Rattle.sre_match.specs.Matches.{if_found, span_at, first_allowed, reads, next_span, next_reads};
 
-use crate::attempts::{first_end, next_ends};
 use crate::error::MatchError;
-use crate::marks::Marks;
+use crate::marks::{Closed, Marks};
 use crate::request::Request;
+use crate::search::{first_end, next_ends};
+use crate::trail::new_trail;
 use crate::view::StrDrive;
 use py_base::Steps;
 use std::alloc::Global;
@@ -16,6 +17,7 @@ use std::sync::ledger::Ledger;
 /// The last match. What it holds after an answer that is not true is open until the next true one.
 #[derive(Debug, Drop)]
 pub struct State {
+    alloc: Global,
     start: usize,
     stop: usize,
     marks: Marks,
@@ -35,19 +37,20 @@ impl State {
         ensures { result ≡ record { start = 0; stop = 0; marks = [] } }
     {
         State {
+            alloc,
             start: 0,
             stop: 0,
             marks: Marks::new(alloc),
         }
     }
 
-    // Holds a match without marks.
-    pub(crate) fn hold(&mut self, start: usize, stop: usize)
-        ensures { self.new ≡ record { start = start; stop = stop; marks = [] } }
+    // Holds a match with these marks, and leaves the room of those that it held.
+    pub(crate) fn hold(&mut self, start: usize, stop: usize, marks: &mut Vec<Closed>)
+        ensures { self.new ≡ record { start = start; stop = stop; marks = marks.old.items } }
     {
         self.start = start;
         self.stop = stop;
-        self.marks.clear();
+        self.marks.swap(marks);
     }
 
     /// Whether there is an allowed outcome at the request's start. The state then holds the first one.
@@ -60,12 +63,15 @@ impl State {
         request: &Request<'_, S>,
         steps: &mut Steps<L>,
     ) -> Result<bool, MatchError>
-        ensures { IfOk result (λ found. if_found found self.new ≡ option_map (span_at request.now.start) (first_allowed request.now.tree request.now.subject request.now.start request.now.advance request.now.whole)) }
+        ensures found { IfOk result (λ found. if_found found self.new ≡ option_map (span_at request.now.start) (first_allowed request.now.tree request.now.subject request.now.start request.now.advance request.now.whole)) }
+        ensures cost { steps.new ≤ steps.old + reads request.now.tree request.now.subject request.now.start request.now.advance request.now.whole }
     {
-        match first_end(request, request.start, request.must_advance, steps) {
+        let mut trail = new_trail(self.alloc);
+        let start = request.start;
+        match first_end(request, &mut trail, start, request.must_advance, steps)? {
             None => Ok(false),
             Some(stop) => {
-                self.hold(request.start, stop);
+                self.hold(start, stop, &mut trail.marks);
                 Ok(true)
             }
         }
@@ -81,12 +87,20 @@ impl State {
         request: &Request<'_, S>,
         steps: &mut Steps<L>,
     ) -> Result<bool, MatchError>
-        ensures { IfOk result (λ found. if_found found self.new ≡ next_span request.now.tree request.now.subject request.now.start request.now.advance request.now.whole) }
+        ensures found { IfOk result (λ found. if_found found self.new ≡ next_span request.now.tree request.now.subject request.now.start request.now.advance request.now.whole) }
+        ensures cost { steps.new ≤ steps.old + next_reads request.now.tree request.now.subject request.now.start request.now.advance request.now.whole }
     {
-        match next_ends(request, request.start, request.must_advance, steps) {
+        let mut trail = new_trail(self.alloc);
+        match next_ends(
+            request,
+            &mut trail,
+            request.start,
+            request.must_advance,
+            steps,
+        )? {
             None => Ok(false),
             Some((start, stop)) => {
-                self.hold(start, stop);
+                self.hold(start, stop, &mut trail.marks);
                 Ok(true)
             }
         }

@@ -7,7 +7,7 @@ use Rattle.sre_code.specs.Spelling.{Spells}
 use Rattle.sre_program.specs.declared.ending.Ending.{Ending}
 use Rattle.sre_program.specs.declared.ending.Ending.TheVariants.{Answered, Faulted, NoCommand, NoRequest, SourceFailed, SinkFailed, NoMemory, TooLong}
 use Rattle.sre_program.specs.Requests.{Request, IsRequest, text_of}
-use Rattle.sre_program.specs.Causes.{IsSubstitution, IsNotBuilt, IsNoRequest, IsMalformed, TookMoreThan, HasAtMost, Holds}
+use Rattle.sre_program.specs.Causes.{IsSubstitution, IsInvalidCode, IsNoRequest, IsMalformed, TookMoreThan, HasAtMost, Holds}
 use Rattle.sre_program.specs.Endings.{status_of, Reading, Writing, Ends}
 use Rattle.sre_program.proofs.Known.{Consumes-whole, Consumes-within}
 use Rattle.sre_program.proofs.OneRequest.{one_request}
@@ -54,7 +54,7 @@ answers SinkFailed words most rd wr r t ends sub is spells holds read write = ab
 answers NoMemory words most rd wr r t ends sub is spells holds read write = inr refl
 answers TooLong words most rd wr r t ends sub is spells holds read write = absurd (not_more most rd.left_old rd.left_new (text_of r) holds.told holds.within ends.1)
 
-pub faults : (e : Ending) (words : List (List ℕ)) (most : ℕ) (reading : Reading) (writing : Writing) (r : Request) → Ends e words most reading writing → IsSubstitution words → IsRequest r → IsNotBuilt r → Holds most reading.left_old (text_of r)
+pub faults : (e : Ending) (words : List (List ℕ)) (most : ℕ) (reading : Reading) (writing : Writing) (r : Request) → Ends e words most reading writing → IsSubstitution words → IsRequest r → IsInvalidCode r → Holds most reading.left_old (text_of r)
     → (Rose reading.faults_old reading.faults_new → ⊥) → (Rose writing.faults_old writing.faults_new → ⊥) → (status_of e ≡ 1) ⊎ (status_of e ≡ 6)
 faults Answered words most rd wr r ends sub is none holds read write =
     let a = ends.2 in

@@ -1,7 +1,7 @@
 -- One call on known bytes after another, and counts that rise.
-use Rattle.std.proofs.Common.{ℕ, ◌≡◌, ◌≤◌, List, [], ◌++◌, length, Option, Some, None, refl, sym, ap, ◌∙◌, append_assoc, arith}
+use Rattle.std.proofs.Common.{ℕ, ◌≡◌, ◌-◌, ◌≤◌, List, [], ◌++◌, length, take, drop, Option, Some, None, refl, sym, ap, ◌∙◌, append_assoc, arith}
 use Rattle.std.specs.Io.KnownBytes.{Consumes, IsAtEnd, Appends, Keeps}
-use Rattle.std.proofs.lemmas.List.{append-nil, length-append}
+use Rattle.std.proofs.lemmas.List.{append-nil, length-append, length-drop, take_all}
 use Rattle.py_base.specs.Causes.{Rose}
 use Rattle.sre_program.specs.Causes.{HasAtMost}
 
@@ -47,3 +47,7 @@ HasAtMost-from_read most (Some xs) b bytes p end le = let same : length xs ≡ l
 pub Consumes-within : (xs : List ℕ) (b : Option (List ℕ)) (bytes : List ℕ) → Consumes (Some xs) b bytes → length bytes ≤ length xs
 Consumes-within xs None bytes p = absurd p
 Consumes-within xs (Some ys) bytes p = let same : length xs ≡ length (bytes ++ ys) = ap length p in omega (arith, same, length-append bytes ys)
+
+-- `&bytes[n..]`
+pub rest_whole : (n : ℕ) (bytes : List ℕ) → take (length bytes - n) (drop n bytes) ≡ drop n bytes
+rest_whole n bytes = take_all (length bytes - n) (drop n bytes) (omega (arith, length-drop n bytes))

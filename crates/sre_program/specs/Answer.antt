@@ -16,5 +16,5 @@ answer_of r t =
     token (result_of r.subject (spans_of_request r t) r.list) ++ (codes " " ++ (decimal (length (spans_of_request r t)) ++ codes "\n"))
 
 -- the line that says that the words spell no tree
-abbrev pub not_built_line : List ℕ
-not_built_line = codes "error not_built\n"
+abbrev pub invalid_code_line : List ℕ
+invalid_code_line = codes "error invalid_code\n"

@@ -4,15 +4,15 @@ use Rattle.std.specs.Io.KnownBytes.{Consumes, IsAtEnd, Appends}
 use Rattle.sre_code.specs.PlainTree.{PlainTree}
 use Rattle.sre_code.specs.Spelling.{Spells}
 use Rattle.sre_program.specs.Requests.{Request, IsRequest, text_of}
-use Rattle.sre_program.specs.Answer.{answer_of, not_built_line}
+use Rattle.sre_program.specs.Answer.{answer_of, invalid_code_line}
 
 -- the words are the one word of the command
 abbrev pub IsSubstitution : List (List ℕ) → Type 0
 IsSubstitution words = words ≡ codes "sub" ∷ []
 
 -- the request's words spell no tree
-abbrev pub IsNotBuilt : Request → Type 0
-IsNotBuilt r = (t : PlainTree) → Spells r.words r.groups t → ⊥
+abbrev pub IsInvalidCode : Request → Type 0
+IsInvalidCode r = (t : PlainTree) → Spells r.words r.groups t → ⊥
 
 -- The source was read to its end as one request whose words spell no tree, and the line that says so was written.
 pub record IsFaulted (left_old left_new held_old held_new : Option (List ℕ)) : Type 0 where
@@ -20,8 +20,8 @@ pub record IsFaulted (left_old left_new held_old held_new : Option (List ℕ)) :
   pub is_request : IsRequest request
   pub read : Consumes left_old left_new (text_of request)
   pub at_end : IsAtEnd left_new
-  pub none : IsNotBuilt request
-  pub written : Appends held_old held_new not_built_line
+  pub none : IsInvalidCode request
+  pub written : Appends held_old held_new invalid_code_line
 
 -- the bytes are the text of no request
 abbrev pub IsNoRequest : List ℕ → Type 0
@@ -42,8 +42,8 @@ pub record Answers (r : Request) (line : List ℕ) : Type 0 where
 
 -- the line says that a request's words spell no tree
 pub record NamesFault (r : Request) (line : List ℕ) : Type 0 where
-  pub none : IsNotBuilt r
-  pub line_is : line ≡ not_built_line
+  pub none : IsInvalidCode r
+  pub line_is : line ≡ invalid_code_line
 
 -- The source was read to its end as one request, and a front of its line was written.
 pub record IsCutShort (left_old left_new held_old held_new : Option (List ℕ)) : Type 0 where

@@ -1,7 +1,9 @@
 //! Replaces what a pattern's code finds in a subject.
 #![tactic(auto)]
 
-ghost use Rattle.std.specs.Prelude.{◌≡◌, ◌<◌};
+ghost use Rattle.std.specs.Prelude.{◌≡◌, ◌≢◌, ◌<◌, ◌≤◌, ◌↔◌, map, string_bytes};
+ghost use Rattle.sre_program.specs.Headline.{IsAnswered};
+ghost use Rattle.sre_program.specs.Causes.{IsSubstitution};
 
 mod answer;
 mod edge;
@@ -32,6 +34,10 @@ fn run_counted<S: py_base::Source, K: py_base::Sink, L: Ledger>(
     requires name { blank.name ≡ L.name }
     requires parts { blank.parts ≡ L.parts }
     requires some { 0 < L.parts }
+    ensures known { result ≤ 7 }
+    ensures answered { result ≡ 0 → IsAnswered (S.left source.old) (S.left source.new) (K.contents sink.old) (K.contents sink.new) }
+    ensures no_command { (result ≡ 2) ↔ (IsSubstitution (map string_bytes words.now) → ⊥) }
+    ensures quiet { 1 < result → result ≢ 5 → K.contents sink.new ≡ K.contents sink.old }
 {
     let mut steps = Steps::<L>::new(blank);
     run(alloc, words, source, sink, &mut steps)
@@ -63,3 +69,6 @@ fn main(rt: HostRuntime) -> ExitCode {
     );
     ExitCode::from(status)
 }
+
+#[cfg(test)]
+mod tests;

@@ -8,7 +8,7 @@ ghost use Rattle.sre_code.specs.Spelling.{Spells};
 ghost use Rattle.sre_program.specs.Requests.{Request, IsRequest, text_of};
 ghost use Rattle.sre_program.specs.Substitution.{request_of};
 ghost use Rattle.sre_program.specs.Headline.{IsAnswered};
-ghost use Rattle.sre_program.specs.Causes.{IsSubstitution, IsNotBuilt, IsNoRequest, IsFaulted, IsMalformed, IsCutShort, TookMoreThan, HasAtMost, Holds};
+ghost use Rattle.sre_program.specs.Causes.{IsSubstitution, IsInvalidCode, IsNoRequest, IsFaulted, IsMalformed, IsCutShort, TookMoreThan, HasAtMost, Holds};
 ghost use Rattle.sre_program.specs.Endings.{Ends, EndsReading};
 ghost use Rattle.sre_program.specs.Replies.{RepliesTo};
 
@@ -81,7 +81,7 @@ fn reply_to<L: Ledger>(
             Err(_) => Err(Ending::NoMemory),
         },
         Err(CodeError::NoMemory) => Err(Ending::NoMemory),
-        Err(CodeError::NotBuilt) => match String::from_str(alloc, "error not_built\n") {
+        Err(CodeError::InvalidCode) => match String::from_str(alloc, "error invalid_code\n") {
             Ok(line) => Ok(Reply::Fault(line)),
             Err(_) => Err(Ending::NoMemory),
         },
@@ -163,7 +163,7 @@ pub fn run<S: Source, K: Sink, L: Ledger>(
         → ¬ Rose (S.faults source.old) (S.faults source.new) → ¬ Rose (K.faults sink.old) (K.faults sink.new) → (result ≡ 0) ⊎ (result ≡ 6) }
 
     // .. and a request whose words spell no tree from the line that says so.
-    ensures faults { IsSubstitution (map string_bytes words.now) → (r : Request) → IsRequest r → IsNotBuilt r → Holds MOST_BYTES (S.left source.old) (text_of r)
+    ensures faults { IsSubstitution (map string_bytes words.now) → (r : Request) → IsRequest r → IsInvalidCode r → Holds MOST_BYTES (S.left source.old) (text_of r)
         → ¬ Rose (S.faults source.old) (S.faults source.new) → ¬ Rose (K.faults sink.old) (K.faults sink.new) → (result ≡ 1) ⊎ (result ≡ 6) }
 
     // Bytes that are no request, and too many bytes, are refused as such.

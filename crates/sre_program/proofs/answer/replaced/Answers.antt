@@ -1,6 +1,6 @@
 use Rattle.std.proofs.Common.{◌≡◌, ℕ, ◌-◌, List, ◌++◌, Some, None, length, take, drop, refl, ap, ◌∙◌, arith}
 use Rattle.std.specs.Prelude.{slice_range}
-use Rattle.sre_code.proofs.Info.{rest_whole}
+use Rattle.sre_program.proofs.Known.{rest_whole}
 use Rattle.sre_match.specs.Matches.{Span}
 use Rattle.sre_match.specs.Search.{Search}
 use Rattle.sre_match.specs.Filling.{fill}

@@ -1,0 +1,136 @@
+//! The errors of all calls.
+
+ghost use Rattle.std.specs.Prelude.{◌≡◌};
+ghost use Rattle.py_base.specs.declared.error.PyError.TheVariants.{NoMemory};
+
+use crate::brace::{FormatParseError, FormatSpecError};
+use crate::causes::{CarryKind, IntArgsKind, MaketransKind, SwitchKind, TranslateKind, ZeroKind};
+use crate::names::{ClassName, PrimitiveName};
+use crate::owned::KeyName;
+use crate::percent::{PercentCause, PercentFault};
+use std::alloc::{AllocError, AllocFailed};
+
+/// What a call answers, or why it is refused.
+pub type PyResult<T> = Result<T, PyError>;
+
+/// Why a call is refused. `kind` is its class in Python, it prints the message, and `name` is how
+/// a program's answer calls it.
+#[derive(Debug, Drop, PartialEq, Eq)]
+pub enum PyError {
+    /// There is no memory.
+    NoMemory,
+    /// The words are no code of a regular expression.
+    InvalidCode,
+    /// The list of a replacement is empty, or its length is even.
+    InvalidTemplate,
+    /// An item in a number's place is neither an integer nor a truth value.
+    ExpectedUsize,
+    /// An integer is outside the type.
+    IntTooLargeFor(PrimitiveName),
+    /// A number of a group, and the count of groups that it is past.
+    TemplateGroup(usize, usize),
+    /// The place of an item, from 0, that is not of the pattern's kind, and its class.
+    TemplatePiece(usize, ClassName),
+    /// A pattern over texts meets a value of this class.
+    ExpectedString(ClassName),
+    /// A pattern over bytes meets a value of this class.
+    ExpectedBytes(ClassName),
+    /// The argument names no group.
+    NoSuchGroup,
+    /// An integer is outside 128 bits.
+    IntTooWide,
+    /// The divisor is 0.
+    ZeroDivision(ZeroKind),
+    /// A count of a shift is negative.
+    NegativeShift,
+    /// The modulus of a power is 0.
+    ModulusZero,
+    /// The exponent is negative, and the base has no inverse under the modulus.
+    NotInvertible,
+    /// A negative integer is to become unsigned bytes.
+    NegativeToUnsigned,
+    /// An integer is outside what the bytes hold.
+    IntTooBig,
+    /// The base is neither 0 nor from 2 to 36.
+    BadBase,
+    /// The text is no literal of an integer in this base.
+    InvalidLiteral(u32),
+    /// The separator is empty.
+    EmptySeparator,
+    /// A text that has to be there is not.
+    SubstringNotFound,
+    /// No code point stands at the place.
+    IndexOutOfRange,
+    /// The step of a slice is 0.
+    StepZero,
+    /// The fill is not one code point.
+    FillChar,
+    /// The class that is needed, and the one that was found.
+    Downcast(ClassName, ClassName),
+    /// A fault of a percent template, and its place in code points, or in bytes.
+    PercentParse(PercentFault, usize),
+    /// The arguments do not fit a percent template.
+    PercentArgs(PercentCause),
+    /// The integer for `%c` is not below 256 or 1114112, which the field is.
+    CharRange(u32),
+    /// A fault of a brace template.
+    FormatParse(FormatParseError),
+    /// A fault of a format specification or of its value.
+    FormatSpec(FormatSpecError),
+    /// A brace template mixes numbered and automatic fields.
+    NumberingSwitch(SwitchKind),
+    /// No such place in the arguments, a tuple, a list or bytes.
+    TupleIndex,
+    /// The key is not there.
+    Key(KeyName),
+    /// A template of `format_map` has a field without a name.
+    PositionalInMap,
+    /// The arguments of `maketrans` do not fit.
+    Maketrans(MaketransKind),
+    /// A value of the table of `translate` does not fit.
+    Translate(TranslateKind),
+    /// A value of this class has no items.
+    NotSubscriptable(ClassName),
+    /// A value or a specification is nested past 200 levels.
+    TooDeep,
+    /// The host failed.
+    HostFault,
+    /// A part of Python that is left out.
+    NotCarried(CarryKind),
+    /// The encoding is not UTF-8.
+    UnknownEncoding,
+    /// The bytes are not UTF-8.
+    InvalidUtf8,
+    /// A value of this class has no such attribute.
+    NoAttribute(ClassName),
+    /// `__bool__` answered a value of this class.
+    BoolType(ClassName),
+    /// `__len__` answered a negative integer.
+    NegativeLen,
+    /// A value of this class is no integer.
+    NotAnIndex(ClassName),
+    /// The arguments of `int` do not fit.
+    IntArgs(IntArgsKind),
+    /// A value of this class has no `__format__` with a specification.
+    Unsupported(ClassName),
+    /// A duration is outside its type.
+    DurationRange,
+}
+
+impl std::error::Error for PyError {}
+
+impl From<AllocError> for PyError {
+    ghost from_gives = { λ _ error. error ≡ NoMemory };
+
+    fn from(_error: AllocError) -> PyError {
+        PyError::NoMemory
+    }
+}
+
+impl<T: Drop> From<AllocFailed<T>> for PyError {
+    ghost from_gives = { λ _ error. error ≡ NoMemory };
+
+    fn from(_error: AllocFailed<T>) -> PyError {
+        PyError::NoMemory
+    }
+}

@@ -1,0 +1,5 @@
+//! Tables of errors, classes and hashes, and streams in memory.
+
+mod classes;
+mod errors;
+mod streams;
