@@ -23,6 +23,7 @@ TOP = pathlib.Path(__file__).resolve().parent.parent
 PROGRAM = TOP / "crates" / "sre_program" / "out" / "sre_program"
 MOST_BYTES = 16_777_216
 MAGIC = 20220615  # of CPython 3.11, whose engine takes the words as they stand
+MOST = 4_294_967_295  # in the place of a repeat's greatest count: there is none
 
 # A process of its own starts the program, so that the peak of memory is the program's and not that
 # of this script.
@@ -39,18 +40,29 @@ print(json.dumps([os.waitstatus_to_exitcode(status), end - begin, used.ru_maxrss
 
 
 class Case:
-    """A regular expression, the words for it, a literal, a limit and a subject."""
+    """A regular expression, the words for it, a replacement list, a subject, a limit and how many
+    groups there are. A list is one literal, or literals with numbers of groups between them."""
 
-    def __init__(self, name, regex, words, literal, subject, limit=0):
+    def __init__(self, name, regex, words, items, subject, limit=0, groups=0):
         self.name, self.regex, self.words = name, regex, words
-        self.literal, self.subject, self.limit = literal, subject, limit
+        self.items = [items] if isinstance(items, str) else items
+        self.subject, self.limit, self.groups = subject, limit, groups
 
     def request(self):
         words = "".join(f" {word}" for word in self.words)
+        items = "".join(f" {item_token(item)}" for item in self.items)
         return (
-            f"pattern {token(self.regex)}\ncode{words}\ngroups 0\nlimit {self.limit}\n"
-            f"list {token(self.literal)}\nsubject {token(self.subject)}\n"
+            f"pattern {token(self.regex)}\ncode{words}\ngroups {self.groups}\nlimit {self.limit}\n"
+            f"list{items}\nsubject {token(self.subject)}\n"
         ).encode("ascii")
+
+    def template(self):
+        """The list as CPython writes it; no literal here has a backslash."""
+        return "".join(item if isinstance(item, str) else rf"\g<{item}>" for item in self.items)
+
+
+def item_token(item):
+    return token(item) if isinstance(item, str) else f"i{item}"
 
 
 def token(text):
@@ -76,6 +88,26 @@ def cases(count):
     yield Case("any unit", ".", [3, 1], "x", filled("ab", count))
     yield Case("empty tree", "", [1], "-", filled("ab", count // 2))
 
+    # Alternatives, repeats, sets, groups and looks.
+    digit, word = [13, 4, 8, 10, 0], [13, 4, 8, 14, 0]
+    words = [24, 9, 1, MOST, *word, 1]
+    a_or_b = [7, 5, 16, 97, 15, 7, 5, 16, 98, 15, 2, 0]
+    a_or_ab = [7, 5, 16, 97, 15, 9, 7, 16, 97, 16, 98, 15, 2, 0, 1]
+    doubled = [17, 0, *a_or_b, 17, 1, 11, 0, 1]
+    swapped = [17, 0, *words, 17, 1, 16, 32, 17, 2, *words, 17, 3, 1]
+    line = "GET /a/17?x=203 HTTP/1.1\n"
+    long = [23, 15, 0, MOST, *a_or_b, 18, 1]
+    yield Case("one long repeat", "(?:a|b)*", long, "-", filled("ab", min(count, 1_000_000)))
+    yield Case("alternatives", "a|ab", a_or_ab, "X", filled("ab", count))
+    yield Case("digits", r"\d+", [24, 9, 1, MOST, *digit, 1, 1], "#", filled(line, count))
+    yield Case("star", "x*", [24, 6, 0, MOST, 16, 120, 1, 1], "-", filled("abxd", count // 2))
+    yield Case("look-behind", "(?<=a)b", [4, 5, 1, 16, 97, 1, 16, 98, 1], "X", filled("abbb", count))
+    yield Case("backreference", r"(a|b)\1", doubled, ["<", 1, ">"], filled("abba", count), groups=1)
+    tag = [16, 60, 26, 5, 0, MOST, 3, 1, 16, 62, 1]
+    yield Case("lazy repeat", "<.*?>", tag, "", filled("<b>bold</b> ", count))
+    turned = ["", 2, " ", 1, ""]
+    yield Case("two groups", r"(\w+) (\w+)", swapped, turned, filled("two words, ", count), groups=2)
+
 
 def engine(case):
     """CPython's engine: on the same words where it knows them, and else on its own."""
@@ -84,7 +116,8 @@ def engine(case):
     except ImportError:
         _sre = None
     if _sre is not None and _sre.MAGIC == MAGIC:
-        return _sre.compile(case.regex, re.DOTALL | re.UNICODE, case.words, 0, {}, (None,))
+        names = (None,) * (case.groups + 1)
+        return _sre.compile(case.regex, re.DOTALL | re.UNICODE, case.words, case.groups, {}, names)
     return re.compile(case.regex, re.DOTALL)
 
 
@@ -111,7 +144,7 @@ def measure(case, program, folder, runs):
     pattern, theirs = engine(case), []
     for _ in range(runs):
         begin = time.perf_counter()
-        text, number = pattern.subn(case.literal, case.subject, case.limit)
+        text, number = pattern.subn(case.template(), case.subject, case.limit)
         theirs.append(time.perf_counter() - begin)
     agree = answer.read_bytes() == f"{token(text)} {number}\n".encode("ascii")
     return min(ours), min(theirs), peak, request.stat().st_size, agree
