@@ -25,7 +25,7 @@ fn push(nodes: &mut Vec<Node>, n: Node) -> Result<(), CodeError>
     Ok(())
 }
 
-// As many nodes as stand before an end.
+// As many nodes as stand before an end, where at most so many levels of bodies may follow.
 #[cycle(decode)]
 pub(crate) fn tree(
     alloc: Global,
