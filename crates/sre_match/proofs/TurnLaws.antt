@@ -2,14 +2,14 @@
 use Rattle.std.proofs.Math.Seq.{take-length}
 use Rattle.sre_code.specs.declared.tree.Node.{Node}
 use Rattle.std.proofs.Common.{◌≤◌, ◌-◌, take, drop, length, get_or, arith, subst, ◌≡◌, refl, sym, ap, ◌∙◌, ℕ, zero, suc, true, List, [], ◌∷◌, ◌++◌}
-use Rattle.std.specs.Prelude.{Result, Ok, Err, IfOk, Some, None}
+use Rattle.std.specs.Prelude.{Result, Ok, Err, IfOk, Some}
 use Rattle.std.proofs.lemmas.List.{append-nil}
 use Rattle.sre_match.specs.declared.trail.Step.{Step}
-use Rattle.sre_match.specs.declared.trail.Step.TheVariants.{Skip, Nodes, Trees, Rep, Optional, Again, Close}
+use Rattle.sre_match.specs.declared.trail.Step.TheVariants.{Skip, Nodes, Trees, Rep, Again, Close}
 use Rattle.sre_match.specs.declared.trail.Trail.{Trail}
 use Rattle.sre_match.specs.declared.turns.Turn.{Turn}
 use Rattle.sre_match.specs.declared.turns.Turn.TheVariants.{Go, Fail, Done}
-use Rattle.sre_code.specs.PlainTree.{PlainNode, PlainTree, nothing, ◌then◌, ◌or◌}
+use Rattle.sre_code.specs.PlainTree.{PlainNode, PlainTree, nothing, ◌then◌, only, ◌or◌}
 use Rattle.sre_code.specs.TreeView.{tree_of, trees_of, node_of}
 use Rattle.sre_match.specs.Attempts.{Attempt, failed, passed, Marks, Next, stay, charge, after, closed_from}
 use Rattle.sre_match.specs.Paths.{paths, node_paths, attempt}
@@ -23,7 +23,6 @@ step_full Skip s p m = tt
 step_full (Nodes ns) s p m = full (tree_of ns.now) s p m
 step_full (Trees ts) s p m = all_full (trees_of ts.now) s p m
 step_full (Rep greedy k body j) s p m = rep_full (paths body.now s) greedy k j (full body.now s) p m
-step_full (Optional greedy body j) s p m = optional_full (paths body.now s) greedy j None (full body.now s) p m
 step_full (Again greedy body j q) s p m = optional_full (paths body.now s) greedy j (Some q) (full body.now s) p m
 step_full (Close g q) s p m = tt
 
@@ -119,6 +118,12 @@ once_more body f g h k p m t e = after_after (body p m) g k t ∙ ap (λ (x : Ne
 pub trees_cons : (t : PlainTree) (ts : List PlainTree) → (ts ≡ [] → ⊥) → trees_of (t ∷ ts) ≡ t or trees_of ts
 trees_cons t [] h = absurd (h refl)
 trees_cons t (u ∷ ts) h = refl
+
+-- one alternative alone
+pub alone : (ts : List PlainTree) (t : PlainTree) → length ts ≡ 1 → t ≡ get_or ts 0 t → trees_of ts ≡ only t
+alone [] t h e = let f : ⊥ = omega (arith, h) in absurd f
+alone (x ∷ []) t h e = ap (λ y. only y) (sym e)
+alone (x ∷ y ∷ ts) t h e = let f : ⊥ = omega (arith, h) in absurd f
 
 -- a node by what it was found to be
 pub node_moves : (n k : Node) (t : Turn) (s : List ℕ) (p : ℕ) (r : Trail) (f : Next) → n ≡ k → Moves t r.frames.items s r.marks.items (after (node_paths (node_of k) s p r.marks.items) f)

@@ -1,7 +1,7 @@
 -- What the matcher's frames and choices stand for.
 use Rattle.std.specs.Prelude.{◌≡◌, ℕ, zero, suc, ◌+◌, ◌≤◌, Bool, List, [], ◌∷◌, ◌++◌, length, take, Option, Some, None}
 use Rattle.sre_match.specs.declared.trail.Step.{Step}
-use Rattle.sre_match.specs.declared.trail.Step.TheVariants.{Skip, Nodes, Trees, Rep, Optional, Again, Close}
+use Rattle.sre_match.specs.declared.trail.Step.TheVariants.{Skip, Nodes, Trees, Rep, Again, Close}
 use Rattle.sre_match.specs.declared.trail.Frame.{Frame}
 use Rattle.sre_match.specs.declared.trail.Kind.{Kind}
 use Rattle.sre_match.specs.declared.trail.Kind.TheVariants.{Try, Cut, Ahead, Not}
@@ -23,7 +23,6 @@ step_next Skip s p m = stay p m
 step_next (Nodes ns) s p m = paths (tree_of ns.now) s p m
 step_next (Trees ts) s p m = all_paths (trees_of ts.now) s p m
 step_next (Rep greedy k body j) s p m = repeat_paths (paths body.now s) greedy k j p m
-step_next (Optional greedy body j) s p m = optional (paths body.now s) greedy j None p m
 step_next (Again greedy body j q) s p m = optional (paths body.now s) greedy j (Some q) p m
 step_next (Close g q) s p m = passed 0 p (m ++ record { group = g; start = q; stop = p } ∷ []) ∷ []
 

@@ -79,7 +79,7 @@ fn copy_turn<'t, S: StrDrive, L: Ledger>(
     }
 }
 
-// A copy of a group's units is next.
+/// A copy of a group's units is next.
 pub fn ref_turn<'t, S: StrDrive, L: Ledger>(
     g: u32,
     rest: usize,
@@ -102,7 +102,7 @@ pub fn ref_turn<'t, S: StrDrive, L: Ledger>(
     }
 }
 
-// A test of a group is next.
+/// A test of a group is next.
 pub fn exists_turn<'t>(
     g: u32,
     y: &'t Tree,

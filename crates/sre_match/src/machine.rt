@@ -16,16 +16,19 @@ use sre_code::Tree;
 use std::alloc::AllocError;
 use std::sync::ledger::Ledger;
 
-// Where a turn leads.
+/// Where a turn leads.
 #[derive(Clone, Copy)]
 pub enum After<'t> {
+    /// There is more to do: the step, the number behind it, and the place.
     More(Step<'t>, usize, usize),
+    /// The first allowed outcome ends at this place.
     Found(usize),
+    /// There is none.
     Nothing,
 }
 
 // Whether an end is allowed.
-pub fn is_allowed(len: usize, start: usize, advance: bool, whole: bool, end: usize) -> bool
+fn is_allowed(len: usize, start: usize, advance: bool, whole: bool, end: usize) -> bool
     ensures { (s : List ℕ) → length s ≡ len → result ≡ is_allowed s start advance whole end }
 {
     (!advance || end != start) && (!whole || end == len)
@@ -52,7 +55,6 @@ fn step_turn<'t, S: StrDrive, L: Ledger>(
         Step::Nodes(nodes) => nodes_turn(nodes, rest, s, p, trail, steps),
         Step::Trees(trees) => trees_turn(trees, rest, p, trail),
         Step::Rep(greedy, k, body, j) => rep_turn(body, greedy, k, j, rest, p, trail),
-        Step::Optional(greedy, body, j) => optional_turn(body, greedy, j, None, rest, p, trail),
         Step::Again(greedy, body, j, q) => {
             optional_turn(body, greedy, j, Some(q), rest, p, trail)
         }

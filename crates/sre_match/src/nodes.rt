@@ -216,7 +216,7 @@ fn node_turn<'t, S: StrDrive, L: Ledger>(
     }
 }
 
-// Nodes are next.
+/// Nodes are next.
 pub fn nodes_turn<'t, S: StrDrive, L: Ledger>(
     nodes: &'t [Node],
     rest: usize,

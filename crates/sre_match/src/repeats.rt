@@ -12,7 +12,8 @@ use crate::turns::{Turn, enter};
 use sre_code::{RepeatKind, Tree};
 use std::alloc::AllocError;
 
-pub fn is_past(q: Option<usize>, p: usize) -> bool
+// Whether a place is past the start of the optional iteration before, where there was one.
+fn is_past(q: Option<usize>, p: usize) -> bool
     ensures { result ≡ is_past q p }
 {
     match q {
@@ -21,7 +22,8 @@ pub fn is_past(q: Option<usize>, p: usize) -> bool
     }
 }
 
-pub fn room_in(len: usize, lo: u32, hi: u32) -> usize
+// How many optional iterations matter in a subject of this length.
+fn room_in(len: usize, lo: u32, hi: u32) -> usize
     requires { len < 18446744073709551614 }
     ensures { result ≡ room_in len lo hi }
 {
@@ -74,7 +76,7 @@ fn once_later<'t>(
     Ok(Turn::Go(0, Step::Skip, rest, p))
 }
 
-// An optional iteration is next, or the end of the repeat.
+/// An optional iteration is next, or the end of the repeat.
 pub fn optional_turn<'t>(
     body: &'t Tree,
     greedy: bool,
@@ -101,7 +103,7 @@ pub fn optional_turn<'t>(
     }
 }
 
-// A mandatory iteration is next, or the optional ones.
+/// A mandatory iteration is next, or the optional ones.
 pub fn rep_turn<'t>(
     body: &'t Tree,
     greedy: bool,
@@ -119,13 +121,13 @@ pub fn rep_turn<'t>(
     ensures sound { OnOk result (Sound trail.new) }
 {
     if k == 0 {
-        return Ok(Turn::Go(0, Step::Optional(greedy, body, j), rest, p));
+        return optional_turn(body, greedy, j, None, rest, p, trail);
     }
     let again = put(trail, Step::Rep(greedy, k - 1, body, j), rest)?;
     Ok(Turn::Go(0, Step::Nodes(body.nodes()), again, p))
 }
 
-// A repeat is next.
+/// A repeat is next.
 pub fn repeat_turn<'t>(
     kind: RepeatKind,
     one_wide: bool,
@@ -147,8 +149,8 @@ pub fn repeat_turn<'t>(
 {
     let j = room_in(len, lo, hi);
     match kind {
-        RepeatKind::Greedy => Ok(Turn::Go(0, Step::Rep(true, lo, b, j), rest, p)),
-        RepeatKind::Lazy => Ok(Turn::Go(0, Step::Rep(false, lo, b, j), rest, p)),
+        RepeatKind::Greedy => rep_turn(b, true, lo, j, rest, p, trail),
+        RepeatKind::Lazy => rep_turn(b, false, lo, j, rest, p, trail),
         RepeatKind::Possessive => {
             let all = Step::Rep(true, lo, b, j);
             enter(trail, Kind::Cut, all, rest, p, p)

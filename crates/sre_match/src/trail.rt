@@ -11,12 +11,18 @@ use std::alloc::{AllocError, Global};
 /// A thing to do.
 #[derive(Clone, Copy)]
 pub enum Step<'t> {
+    /// Nothing before what is behind.
     Skip,
+    /// Nodes, one after another.
     Nodes(&'t [Node]),
+    /// Alternatives.
     Trees(&'t [Tree]),
+    /// A repeat: whether it is greedy, how many mandatory iterations are left, its body, and how many
+    /// optional ones may follow.
     Rep(bool, u32, &'t Tree, usize),
-    Optional(bool, &'t Tree, usize),
+    /// Its optional iterations, and the place where the last of them began.
     Again(bool, &'t Tree, usize, usize),
+    /// The end of a group, which began at a place.
     Close(u32, usize),
 }
 
@@ -30,9 +36,13 @@ pub struct Frame<'t> {
 /// What a choice stands for: more to try, or a part that was entered, of which the first match alone counts.
 #[derive(Clone, Copy, Drop)]
 pub enum Kind {
+    /// One more way to go on.
     Try,
+    /// A part, behind which it goes on at the part's end.
     Cut,
+    /// A part, behind which it goes on at the place where it stood before.
     Ahead,
+    /// A part, behind which it goes on only where the part does not match.
     Not,
 }
 
@@ -81,6 +91,7 @@ pub fn clear<'t>(trail: &mut Trail<'t>)
     trail.levels = 0;
 }
 
+// Adds a choice at the end.
 fn push_choice<'t>(choices: &mut Vec<Choice<'t>>, choice: Choice<'t>) -> Result<(), AllocError>
     ensures { OnOk result (choices.new.items ≡ choices.old.items ++ choice.entry ∷ []) }
 {
@@ -90,6 +101,7 @@ fn push_choice<'t>(choices: &mut Vec<Choice<'t>>, choice: Choice<'t>) -> Result<
     Ok(())
 }
 
+// Adds a frame at the end.
 fn push_frame<'t>(frames: &mut Vec<Frame<'t>>, frame: Frame<'t>) -> Result<(), AllocError>
     ensures { OnOk result (frames.new.items ≡ frames.old.items ++ frame.entry ∷ []) }
 {
@@ -109,12 +121,14 @@ fn level(kind: Kind) -> usize
     }
 }
 
+// How many groups were closed.
 fn mark_count(marks: &[Closed]) -> usize
     ensures { result ≡ length marks.now }
 {
     marks.len()
 }
 
+// How many frames there are.
 fn frame_count<'t>(frames: &[Frame<'t>]) -> usize
     ensures count { result ≡ length frames.now }
     ensures bound { result < 2 ^ 63 }
@@ -122,6 +136,7 @@ fn frame_count<'t>(frames: &[Frame<'t>]) -> usize
     frames.len()
 }
 
+// How many choices there are.
 fn choice_count<'t>(choices: &[Choice<'t>]) -> usize
     ensures count { result ≡ length choices.now }
     ensures bound { result < 2 ^ 63 }
@@ -189,7 +204,7 @@ pub fn keep<'t>(
     Ok(())
 }
 
-// Closes a group.
+/// Closes a group.
 pub fn close<'t>(trail: &mut Trail<'t>, closed: Closed) -> Result<(), AllocError>
     requires { Sound trail.old }
     ensures marks { OnOk result (trail.new.marks.items ≡ trail.old.marks.items ++ closed ∷ []) }
@@ -203,7 +218,7 @@ pub fn close<'t>(trail: &mut Trail<'t>, closed: Closed) -> Result<(), AllocError
     }
 }
 
-// Takes the newest choice away. The marks and the frames stay.
+/// Takes the newest choice away. The marks and the frames stay.
 pub fn pop<'t>(trail: &mut Trail<'t>) -> Option<Choice<'t>>
     requires { Sound trail.old }
     ensures popped { Pops result trail.old trail.new }
@@ -232,7 +247,7 @@ fn rewind<'t>(trail: &mut Trail<'t>, marks: usize, frames: usize, rest: usize)
     trail.frames.truncate(frames);
 }
 
-// Goes back to the newest choice that has more to try, and to the marks of then.
+/// Goes back to the newest choice that has more to try, and to the marks of then.
 pub fn go_back<'t>(trail: &mut Trail<'t>) -> Option<(Step<'t>, usize, usize)>
     requires { Sound trail.old }
     ensures back { (s : List ℕ) → Returns result s trail.new (to_try s trail.old []) }

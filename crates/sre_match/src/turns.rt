@@ -1,6 +1,6 @@
 //! One turn of the matcher, where no unit is read.
 
-ghost use Rattle.std.specs.Prelude.{◌≡◌, ℕ, List, ◌∷◌, ◌+◌, ◌<◌, ◌≤◌, IfOk, OnOk, length};
+ghost use Rattle.std.specs.Prelude.{◌≡◌, ◌≢◌, ℕ, List, [], ◌∷◌, ◌+◌, ◌<◌, ◌≤◌, IfOk, OnOk, length};
 ghost use Rattle.sre_match.specs.Machine.{run, Frames, step_next, wrap, to_try, Sound, Gives, Moves, Below, spent};
 ghost use Rattle.sre_match.specs.Attempts.{stay, after, Marks, closed_from, cut};
 ghost use Rattle.sre_match.specs.Paths.{paths, node_paths, attempt, all_paths};
@@ -15,12 +15,15 @@ use std::alloc::AllocError;
 /// What came of a turn: more to do, or a failure, each at a cost, or a match.
 #[derive(Clone, Copy)]
 pub enum Turn<'t> {
+    /// The cost, and what to do next: the step, the number behind it, and the place.
     Go(u64, Step<'t>, usize, usize),
+    /// A failure, and its cost.
     Fail(u64),
+    /// The whole tree matches up to this place.
     Done(usize),
 }
 
-// Leaves the part that was entered last, which matches up to a place.
+/// Leaves the part that was entered last, which matches up to a place.
 pub fn leave<'t>(trail: &mut Trail<'t>, p: usize) -> Turn<'t>
     requires sound { Sound trail.old }
     requires inside { 0 < trail.old.levels }
@@ -40,7 +43,7 @@ pub fn leave<'t>(trail: &mut Trail<'t>, p: usize) -> Turn<'t>
     Turn::Done(p)
 }
 
-// A part is entered, of which the first match alone counts.
+/// A part is entered, of which the first match alone counts.
 pub fn enter<'t>(
     trail: &mut Trail<'t>,
     kind: Kind,
@@ -60,7 +63,7 @@ pub fn enter<'t>(
     Ok(Turn::Go(0, part, 0, start))
 }
 
-// A unit is read.
+/// A unit is read.
 #[tactic(auto, using(crate::proofs::FrameLaws::unit_go))]
 pub fn unit_turn<'t>(is_met: bool, rest: usize, p: usize) -> Turn<'t>
     requires { p < 18446744073709551615 }
@@ -75,7 +78,7 @@ pub fn unit_turn<'t>(is_met: bool, rest: usize, p: usize) -> Turn<'t>
     }
 }
 
-// A group is next.
+/// A group is next.
 pub fn group_turn<'t>(
     g: u32,
     b: &'t Tree,
@@ -94,7 +97,7 @@ pub fn group_turn<'t>(
     Ok(Turn::Go(0, Step::Nodes(b.nodes()), close, p))
 }
 
-// A tree is next.
+/// A tree is next.
 pub fn tree_turn<'t>(b: &'t Tree, rest: usize, p: usize) -> Turn<'t>
     ensures moves { (fs : Frames) (s : List ℕ) (m : Marks) → Moves result fs s m (after (paths b.now s p m) (run fs rest s)) }
     ensures cost { spent result ≡ 0 }
@@ -103,7 +106,7 @@ pub fn tree_turn<'t>(b: &'t Tree, rest: usize, p: usize) -> Turn<'t>
     Turn::Go(0, Step::Nodes(b.nodes()), rest, p)
 }
 
-// An atomic part is next.
+/// An atomic part is next.
 pub fn atomic_turn<'t>(
     b: &'t Tree,
     rest: usize,
@@ -120,7 +123,7 @@ pub fn atomic_turn<'t>(
     enter(trail, Kind::Cut, Step::Nodes(b.nodes()), rest, p, p)
 }
 
-// A look is next.
+/// A look is next.
 pub fn look_turn<'t>(
     positive: bool,
     back: u32,
@@ -157,7 +160,7 @@ pub fn look_turn<'t>(
     }
 }
 
-// Alternatives are next.
+/// Alternatives are next.
 pub fn trees_turn<'t>(
     trees: &'t [Tree],
     rest: usize,
@@ -174,6 +177,18 @@ pub fn trees_turn<'t>(
     match trees {
         [] => Ok(Turn::Go(0, Step::Skip, rest, p)),
         [t, more @ ..] => alternative_turn(t, more, rest, p, trail),
+    }
+}
+
+// Alternatives for later, of which a last one is its nodes.
+#[tactic(auto, using(crate::proofs::TurnLaws::alone))]
+fn later<'t>(more: &'t [Tree]) -> Step<'t>
+    requires { more.now ≢ [] }
+    ensures { (s : List ℕ) (p : ℕ) (m : Marks) → step_next result s p m ≡ all_paths (trees_of more.entry.now) s p m }
+{
+    match more {
+        [t] => Step::Nodes(t.nodes()),
+        _ => Step::Trees(more),
     }
 }
 
@@ -196,11 +211,11 @@ fn alternative_turn<'t>(
     if more.is_empty() {
         return Ok(Turn::Go(0, body, rest, p));
     }
-    keep(trail, Kind::Try, Step::Trees(more), rest, p)?;
+    keep(trail, Kind::Try, later(more), rest, p)?;
     Ok(Turn::Go(0, body, rest, p))
 }
 
-// A group ends here.
+/// A group ends here.
 pub fn close_turn<'t>(
     g: u32,
     start: usize,
