@@ -1,0 +1,61 @@
+"""tools/request.py as it is called."""
+import unittest
+
+from support import EXAMPLES, needs_cpython, run
+
+import formats
+
+
+@needs_cpython
+class Request(unittest.TestCase):
+    def request(self, *words, stdin=b""):
+        status, out, errors = run("request.py", "sub", *words, stdin=stdin)
+        self.assertEqual((status, errors), (0, ""))
+        return dict(line.split(" ", 1) for line in out.decode("ascii").splitlines())
+
+    def refusal(self, *words, stdin=b""):
+        status, out, errors = run("request.py", "sub", *words, stdin=stdin)
+        self.assertEqual((status, out), (2, b""))
+        return errors
+
+    def test_an_example_of_the_repository_comes_out(self):
+        status, out, _ = run("request.py", "sub", "ab", "", "--text", "abcabc")
+        self.assertEqual((status, out), (0, (EXAMPLES / "info_block.request").read_bytes()))
+
+    def test_a_replacement_becomes_a_list(self):
+        rows = {r"<\1>": "t3c i1 t3e", r"\g<0>": "t i0 t", r"\g<x>\1": "t i1 t i1 t", r"a\n": "t610a", "": "t"}
+        for replacement, items in rows.items():
+            self.assertEqual(self.request("(?P<x>a)", replacement, "--text", "a")["list"], items)
+
+    def test_flags_change_the_words(self):
+        self.assertTrue(self.request(".", "", "--text", "", "--flags", "s")["code"].endswith(" 3 1"))
+        self.assertTrue(self.request("^", "", "--text", "", "--flags", "m")["code"].endswith(" 6 1 1"))
+
+    def test_a_file_is_read_as_it_is(self):
+        given = "é\r\n".encode()
+        self.assertEqual(self.request("a", "", "--file", "-", stdin=given)["subject"], formats.text_token("é\r\n"))
+
+    def test_what_the_grammar_leaves_out_is_refused(self):
+        self.assertIn("IGNORECASE", self.refusal("(?i)a", "", "--text", ""))
+        self.assertIn("IGNORECASE", self.refusal("a", "", "--text", "", "--flags", "i"))
+        self.assertIn("ignores case", self.refusal("(?i:a)b", "", "--text", ""))
+        self.assertIn("LOCALE", self.refusal("a", "", "--text", "", "--flags", "L"))
+
+    def test_other_faults_are_told(self):
+        self.assertIn("refuses the pattern: missing )", self.refusal("(", "", "--text", ""))
+        self.assertIn("invalid group reference 1", self.refusal("a", r"\1", "--text", ""))
+        self.assertIn("unknown group name 'x'", self.refusal("a", r"\g<x>", "--text", ""))
+        self.assertIn("the limit is", self.refusal("a", "", "--text", "", "--limit", "-1"))
+        self.assertIn("is not UTF-8", self.refusal("a", "", "--file", "-", stdin=b"a\xff"))
+        self.assertIn("No such file", self.refusal("a", "", "--file", "there-is-none"))
+        self.assertIn("no flag 'q'", self.refusal("a", "", "--text", "", "--flags", "q"))
+
+    def test_help_has_examples(self):
+        for words in (["--help"], ["sub", "--help"]):
+            status, out, _ = run("request.py", *words)
+            self.assertEqual(status, 0)
+            self.assertIn(b"Examples:", out)
+
+
+if __name__ == "__main__":
+    unittest.main()
