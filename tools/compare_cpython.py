@@ -1,0 +1,294 @@
+#!/usr/bin/env python3
+r"""Compares the built program with CPython 3.11: on the patterns of CPython's own tests, on code words made
+by chance, and on every character by three categories.
+
+    python3 tools/compare_cpython.py [--program PATH] [--codes N] [--seed N] [--jobs N] [--show N] [--or-skip]
+
+The patterns are those of the module `test.re_tests` as it is installed; nothing of it is copied. Their
+words are made by CPython's compiler, and both engines get the same words. Where the two differ, the reason
+has to be one that docs/DIFFERENCES.md lists by name, and the program has to agree with the plain reading
+of the rules in plain_match.py. Words that were damaged by chance are compared with grammar.py and
+plain_match.py alone.
+
+Examples:
+
+    python3 tools/compare_cpython.py --or-skip             # as the gate does
+    python3 tools/compare_cpython.py --codes 30000 --seed 7
+    python3 tools/compare_cpython.py --program crates/sre_program/out/sre_program --show 20
+
+Ends with 0 where all agrees or differs for a listed reason, with 1 where something else differs, and with 2
+where this is not CPython 3.11 or the program is not built; with --or-skip these two end with 0.
+"""
+import argparse
+import collections
+import concurrent.futures
+import os
+import pathlib
+import random
+import signal
+import subprocess
+import sys
+import unicodedata
+import warnings
+
+import code_reader
+import differences
+import formats
+import grammar
+import plain_match
+import python_regex
+import random_codes
+
+TOP = pathlib.Path(__file__).resolve().parent.parent
+PROGRAM = TOP / "crates" / "sre_program" / "out" / "sre_program"
+SECONDS = 10  # for one search, here or there
+SAME, LONG = "agree", "takes too long"
+PIECE = 50  # cases that a process takes at a time
+
+
+class Case:
+    """Code words with their tree, a list, a subject and a limit."""
+
+    def __init__(self, name, body, words, groups, items, subject, limit=0):
+        self.name, self.body, self.words, self.groups = name, body, words, groups
+        self.items, self.subject, self.limit = items, subject, limit
+
+    def request(self):
+        return formats.sub_request("", self.words, self.groups, self.items, self.subject, self.limit)
+
+    def __str__(self):
+        words = " ".join(map(str, self.words))
+        return f"{self.name}: code {words}; groups {self.groups}; subject {self.subject!r}; limit {self.limit}"
+
+
+def by_program(program, case):
+    """What the program answers: the text and the count, or why there is neither."""
+    try:
+        run = subprocess.run([program, "sub"], input=case.request(), stdout=subprocess.PIPE, timeout=SECONDS)
+    except subprocess.TimeoutExpired:
+        return LONG
+    if run.returncode != 0:
+        return f"status {run.returncode}"
+    return formats.read_answer(run.stdout)[1:]
+
+
+class Late(Exception):
+    pass
+
+
+def ring(_signal, _frame):
+    raise Late
+
+
+def by_cpython(case):
+    """The same of CPython's engine."""
+    def filled(match):
+        return "".join(item if isinstance(item, str) else match[item] or "" for item in case.items)
+
+    signal.signal(signal.SIGALRM, ring)
+    signal.alarm(SECONDS)
+    try:
+        return python_regex.engine(case.words, case.groups).subn(filled, case.subject, case.limit)
+    except Late:
+        return LONG
+    except (RuntimeError, SystemError) as fault:
+        return type(fault).__name__
+    finally:
+        signal.alarm(0)
+
+
+def by_rules(case):
+    """The same of the plain reading."""
+    if case.body is None:
+        return "status 1"
+    try:
+        return plain_match.substituted(case.body, case.subject, case.items, case.limit)
+    except plain_match.TooLong:
+        return LONG
+
+
+def judged(program, case):
+    """How the two compare: a name, and what each answers."""
+    ours, theirs = by_program(program, case), by_cpython(case)
+    if ours == theirs:
+        return SAME, ours, theirs
+    if by_rules(case) != ours:
+        return "AGAINST THE RULES", ours, theirs
+    return differences.reason(case.body, case.subject) or "NOT LISTED", ours, theirs
+
+
+def random_case(seed, number):
+    """Every second case is tame: of its kind nothing but a possessive repeat and \\B is listed."""
+    chance = random.Random(f"{seed}/{number}")
+    body, groups, items, subject, limit = random_codes.case(chance, number % 2 == 0)
+    return Case(f"code {number}", body, grammar.spell(body), groups, items, subject, limit)
+
+
+def judge_random(program, seed, number):
+    return judged(program, random_case(seed, number))
+
+
+def damaged_case(seed, number):
+    """The words of a random case with one word changed, left out or added."""
+    case, chance = random_case(seed, number), random.Random(f"{seed}/{number}/damaged")
+    words, place = list(case.words), chance.randrange(len(case.words))
+    near = [chance.randrange(30), min(max(0, words[place] + chance.choice((-1, 1))), grammar.MOST), grammar.MOST]
+    words[place:place + chance.randint(0, 1)] = [chance.choice(near)] * chance.randint(0, 1)
+    try:
+        body = code_reader.read(words, case.groups)
+    except code_reader.NoTree:
+        body = None
+    return Case(f"damaged {number}", body, words, case.groups, case.items, case.subject, case.limit)
+
+
+def judge_damaged(program, seed, number):
+    case = damaged_case(seed, number)
+    ours, wanted = by_program(program, case), by_rules(case)
+    if LONG in (ours, wanted):  # as a huge least count of an empty body
+        return "not judged", ours, wanted
+    return SAME if ours == wanted else "AGAINST THE RULES", ours, wanted
+
+
+def judge_piece(judge, program, seed, numbers):
+    return [(number, *judge(program, seed, number)) for number in numbers]
+
+
+def compare_by_chance(asked, report, title, make, judge):
+    report.begin(f"{title} (seed {asked.seed})")
+    pieces = [range(i, min(i + PIECE, asked.codes)) for i in range(0, asked.codes, PIECE)]
+    with concurrent.futures.ProcessPoolExecutor(asked.jobs) as pool:
+        todo = [pool.submit(judge_piece, judge, asked.program, asked.seed, piece) for piece in pieces]
+        for done in todo:
+            for number, verdict, ours, theirs in done.result():
+                report.add(verdict, lambda: make(asked.seed, number), ours, theirs)
+
+
+def table_of_tests():
+    """CPython's own list, or None where it is not installed."""
+    try:
+        with warnings.catch_warnings():
+            warnings.simplefilter("ignore")
+            from test import re_tests
+    except ImportError:
+        return None
+    return re_tests
+
+
+def compare_tests(asked, report):
+    report.begin("test.re_tests")
+    module = table_of_tests()
+    if module is None:
+        print("  not installed here")
+        return
+    outside = 0
+    for entry in module.tests:
+        pattern, subject, outcome = entry[:3]
+        with warnings.catch_warnings():
+            warnings.simplefilter("ignore")
+            try:
+                compiled = python_regex.Compiled(pattern)
+            except python_regex.PatternError:
+                outside += 1
+                continue
+        case = case_of_pattern(compiled, subject)
+        verdict, ours, theirs = judged(asked.program, case)
+        wanted = outcome == module.SUCCEED
+        if verdict == SAME and (ours[1] > 0) != wanted:
+            verdict = "AGAINST THE TABLE"
+        report.add(verdict, lambda: case, ours, theirs)
+    print(f"  {outside} of {len(module.tests)} entries do not compile, or use what the grammar leaves out")
+
+
+def case_of_pattern(compiled, subject):
+    items = ["<"]
+    for g in range(compiled.groups + 1):
+        items += [g, "|" if g < compiled.groups else ">"]
+    return Case(repr(compiled.pattern), compiled.body, compiled.words, compiled.groups, items, subject)
+
+
+def compare_characters(asked, report):
+    """Every character that UTF-8 has, by `\\d`, `\\s` and `\\w`."""
+    report.begin("characters")
+    every = "".join(chr(c) for c in range(0x110000) if not 0xD800 <= c <= 0xDFFF)
+    for half in (every[:len(every) // 2], every[len(every) // 2:]):
+        for pattern in (r"\d", r"\s", r"\w"):
+            compiled = python_regex.Compiled(pattern)
+            case = Case(pattern, compiled.body, compiled.words, 0, [""], half)
+            ours, theirs = by_program(asked.program, case), by_cpython(case)
+            if isinstance(ours, str) or isinstance(theirs, str):
+                report.add("NOT LISTED", lambda: pattern, ours, theirs)
+                continue
+            apart = set(ours[0]) ^ set(theirs[0])
+            report.count(SAME, len(half) - len(apart))
+            for c in sorted(apart):
+                name = differences.reason_of_character(pattern, c) or "NOT LISTED"
+                text = f"{pattern} on U+{ord(c):04X} ({unicodedata.category(c)})"
+                report.add(name, lambda text=text: text, c not in ours[0], c not in theirs[0])
+
+
+def what_is_missing(program):
+    missing = python_regex.what_is_missing()
+    if missing:
+        return f"this Python cannot be used: {missing}"
+    if not os.access(program, os.X_OK):
+        return f"{program} is not built: cd crates/sre_program && rt run -- sub < stdin"
+    return None
+
+
+class Report:
+    """Counts of verdicts, and what there is to show."""
+
+    def __init__(self, show):
+        self.show, self.faults = show, 0
+        self.counts, self.shown = collections.Counter(), collections.Counter()
+
+    def begin(self, title):
+        self.end()
+        print(f"{title}:", flush=True)
+
+    def count(self, verdict, number):
+        self.counts[verdict] += number
+
+    def add(self, verdict, case, ours, theirs):
+        self.counts[verdict] += 1
+        fault = verdict.isupper()
+        self.faults += fault
+        if (fault or self.show) and verdict != SAME and self.shown[verdict] < (self.show or 10):
+            self.shown[verdict] += 1
+            print(f"  {verdict}: {case()}\n    here {ours!r}\n    wanted {theirs!r}")
+
+    def end(self):
+        if SAME in self.counts:
+            print(f"  {self.counts.pop(SAME):8} agree")
+        for verdict, number in sorted(self.counts.items()):
+            print(f"  {number:8} differ: {verdict}")
+        self.counts.clear()
+
+
+def main(words=None):
+    raw = argparse.RawDescriptionHelpFormatter
+    parser = argparse.ArgumentParser(prog="compare_cpython.py", description=__doc__, formatter_class=raw)
+    parser.add_argument("--program", default=str(PROGRAM), metavar="PATH", help="the built program")
+    parser.add_argument("--codes", type=int, default=2000, metavar="N",
+                        help="how many codes are made by chance, and how many of these are damaged (2000)")
+    parser.add_argument("--seed", type=int, default=1, metavar="N", help="what they are made from (1)")
+    parser.add_argument("--jobs", type=int, default=os.cpu_count(), metavar="N", help="processes side by side")
+    parser.add_argument("--show", type=int, default=0, metavar="N", help="how many differences of each kind are shown")
+    parser.add_argument("--or-skip", action="store_true", help="end with 0 where it cannot be compared here")
+    asked = parser.parse_args(words)
+    missing = what_is_missing(asked.program)
+    if missing:
+        print(f"compare_cpython.py: {'left out: ' if asked.or_skip else ''}{missing}", file=sys.stderr)
+        return 0 if asked.or_skip else 2
+    report = Report(asked.show)
+    compare_tests(asked, report)
+    compare_by_chance(asked, report, "random codes", random_case, judge_random)
+    compare_by_chance(asked, report, "damaged codes", damaged_case, judge_damaged)
+    compare_characters(asked, report)
+    report.end()
+    print("every difference is a listed one" if report.faults == 0 else f"{report.faults} differences are not listed")
+    return 1 if report.faults else 0
+
+
+if __name__ == "__main__":
+    sys.exit(main())
