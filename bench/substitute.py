@@ -1,29 +1,43 @@
 #!/usr/bin/env python3
 """Times `sre_program sub` on large requests beside CPython's engine on the same code words.
 
-    python3 bench/substitute.py [--characters N] [--runs N] [--program PATH]
+    python3 bench/substitute.py [--characters N] [--runs N] [--more] [--program PATH]
+    python3 bench/substitute.py --instructions [--characters N] [--jobs N] [--program PATH]
 
 Build the program first: `cd crates/sre_program && rt run -- sub < stdin`.
 
-Our time is that of the whole process: start, reading the request, taking it apart, searching,
-joining, and writing the answer. CPython's time is that of `subn` alone, on a subject that lies in
-memory already. So the ratio is against us by all that surrounds the search; the row `start` shows
-what a request of a few bytes takes.
+`ours` is the whole process: start, reading the request, taking it apart, searching, joining, and writing
+the answer. `frame` is the same process on a request with the same subject in which one empty span is found
+at the front and no other is asked for: it is what reading, hexadecimal, copying and writing take.
+`CPython` is the call of `subn` alone, on a subject that lies in memory already. `search` is ours without
+the frame by CPython's, and `whole` is ours by CPython's.
+
+With --instructions the same is counted in instructions, by valgrind, on a smaller subject. CPython's are
+those of a process with the call less those of a process without it.
+
+Examples:
+
+    python3 bench/substitute.py
+    python3 bench/substitute.py --more --runs 5
+    python3 bench/substitute.py --instructions --characters 20000
+
+Ends with 0 where all results agreed, with 1 where some did not, and with 2 where it could not run.
 """
 import argparse
+import concurrent.futures
 import json
+import os
 import pathlib
 import re
+import shutil
 import subprocess
 import sys
 import tempfile
 import time
 
-TOP = pathlib.Path(__file__).resolve().parent.parent
-PROGRAM = TOP / "crates" / "sre_program" / "out" / "sre_program"
-MOST_BYTES = 16_777_216
-MAGIC = 20220615  # of CPython 3.11, whose engine takes the words as they stand
-MOST = 4_294_967_295  # in the place of a repeat's greatest count: there is none
+import workloads
+
+PROGRAM = workloads.TOP / "crates" / "sre_program" / "out" / "sre_program"
 
 # A process of its own starts the program, so that the peak of memory is the program's and not that
 # of this script.
@@ -38,143 +52,135 @@ with open(request, "rb") as source, open(answer, "wb") as sink:
 print(json.dumps([os.waitstatus_to_exitcode(status), end - begin, used.ru_maxrss]))
 """
 
-
-class Case:
-    """A regular expression, the words for it, a replacement list, a subject, a limit and how many
-    groups there are. A list is one literal, or literals with numbers of groups between them."""
-
-    def __init__(self, name, regex, words, items, subject, limit=0, groups=0):
-        self.name, self.regex, self.words = name, regex, words
-        self.items = [items] if isinstance(items, str) else items
-        self.subject, self.limit, self.groups = subject, limit, groups
-
-    def request(self):
-        words = "".join(f" {word}" for word in self.words)
-        items = "".join(f" {item_token(item)}" for item in self.items)
-        return (
-            f"pattern {token(self.regex)}\ncode{words}\ngroups {self.groups}\nlimit {self.limit}\n"
-            f"list{items}\nsubject {token(self.subject)}\n"
-        ).encode("ascii")
-
-    def template(self):
-        """The list as CPython writes it; no literal here has a backslash."""
-        return "".join(item if isinstance(item, str) else rf"\g<{item}>" for item in self.items)
+# What CPython does under valgrind; with "idle" all but the call.
+CPYTHON = """
+import sys
+sys.path.insert(0, sys.argv[1])
+import workloads
+case = next(c for c in workloads.ten_workloads(int(sys.argv[2])) if c.name == sys.argv[3])
+engine, template = case.engine(), case.template()
+engine.subn(template, "")
+if sys.argv[4] == "call":
+    engine.subn(template, case.subject, case.limit)
+"""
 
 
-def item_token(item):
-    return token(item) if isinstance(item, str) else f"i{item}"
-
-
-def token(text):
-    return "t" + text.encode("utf-8").hex()
-
-
-def filled(piece, count):
-    """The piece over and over, up to so many characters."""
-    return (piece * (count // len(piece) + 1))[:count]
-
-
-def cases(count):
-    a = [16, 97, 1]
-    several = [16, 97, 16, 98, 3, 16, 99, 1]
-    yield Case("start", "a", a, "b", "aaa", 2)
-    yield Case("every second", "a", a, "b", filled("ba", count))
-    yield Case("no match", "z", [16, 122, 1], "b", filled("ba", count))
-    yield Case("all match", "a", a, "b", filled("a", count))
-    yield Case("with info", "a", [14, 8, 3, 1, 1, 1, 1, 97, 0, 16, 97, 1], "b", filled("ba", count))
-    yield Case("four nodes", "ab.c", several, "<>", filled("abxcab", count))
-    yield Case("four, near misses", "ab.c", several, "<>", filled("abxabx", count))
-    yield Case("not ASCII", "é", [16, 233, 1], "e", filled("né", count * 2 // 3))
-    yield Case("any unit", ".", [3, 1], "x", filled("ab", count))
-    yield Case("empty tree", "", [1], "-", filled("ab", count // 2))
-
-    # Alternatives, repeats, sets, groups and looks.
-    digit, word = [13, 4, 8, 10, 0], [13, 4, 8, 14, 0]
-    words = [24, 9, 1, MOST, *word, 1]
-    a_or_b = [7, 5, 16, 97, 15, 7, 5, 16, 98, 15, 2, 0]
-    a_or_ab = [7, 5, 16, 97, 15, 9, 7, 16, 97, 16, 98, 15, 2, 0, 1]
-    doubled = [17, 0, *a_or_b, 17, 1, 11, 0, 1]
-    swapped = [17, 0, *words, 17, 1, 16, 32, 17, 2, *words, 17, 3, 1]
-    line = "GET /a/17?x=203 HTTP/1.1\n"
-    long = [23, 15, 0, MOST, *a_or_b, 18, 1]
-    yield Case("one long repeat", "(?:a|b)*", long, "-", filled("ab", min(count, 1_000_000)))
-    yield Case("alternatives", "a|ab", a_or_ab, "X", filled("ab", count))
-    yield Case("digits", r"\d+", [24, 9, 1, MOST, *digit, 1, 1], "#", filled(line, count))
-    yield Case("star", "x*", [24, 6, 0, MOST, 16, 120, 1, 1], "-", filled("abxd", count // 2))
-    yield Case("look-behind", "(?<=a)b", [4, 5, 1, 16, 97, 1, 16, 98, 1], "X", filled("abbb", count))
-    yield Case("backreference", r"(a|b)\1", doubled, ["<", 1, ">"], filled("abba", count), groups=1)
-    tag = [16, 60, 26, 5, 0, MOST, 3, 1, 16, 62, 1]
-    yield Case("lazy repeat", "<.*?>", tag, "", filled("<b>bold</b> ", count))
-    turned = ["", 2, " ", 1, ""]
-    yield Case("two groups", r"(\w+) (\w+)", swapped, turned, filled("two words, ", count), groups=2)
-
-
-def engine(case):
-    """CPython's engine: on the same words where it knows them, and else on its own."""
-    try:
-        import _sre
-    except ImportError:
-        _sre = None
-    if _sre is not None and _sre.MAGIC == MAGIC:
-        names = (None,) * (case.groups + 1)
-        return _sre.compile(case.regex, re.DOTALL | re.UNICODE, case.words, case.groups, {}, names)
-    return re.compile(case.regex, re.DOTALL)
+class Fault(Exception):
+    """The program could not be run as the bench needs it."""
 
 
 def run_ours(program, request, answer):
-    out = subprocess.run(
-        [sys.executable, "-c", STARTER, str(program), str(request), str(answer)],
-        stdout=subprocess.PIPE, check=True,
-    )
-    return json.loads(out.stdout)
+    words = [sys.executable, "-c", STARTER, program, str(request), str(answer)]
+    status, seconds, kilobytes = json.loads(subprocess.run(words, stdout=subprocess.PIPE, check=True).stdout)
+    if status != 0:
+        raise Fault(f"the program ended with status {status}")
+    return seconds, kilobytes
 
 
-def measure(case, program, folder, runs):
+def time_ours(program, made, folder, runs):
+    """The shortest time of so many runs, the peak of memory in kilobytes, and the answer."""
     request, answer = folder / "request", folder / "answer"
-    request.write_bytes(case.request())
-    if request.stat().st_size > MOST_BYTES:
-        sys.exit(f"{case.name}: the request is too long; give fewer --characters")
-    ours, peak = [], 0
-    for _ in range(runs):
-        status, seconds, kilobytes = run_ours(program, request, answer)
-        if status != 0:
-            sys.exit(f"{case.name}: the program ended with status {status}")
-        ours.append(seconds)
-        peak = max(peak, kilobytes)
-    pattern, theirs = engine(case), []
+    request.write_bytes(made)
+    timed = [run_ours(program, request, answer) for _ in range(runs)]
+    return min(t for t, _ in timed), max(k for _, k in timed), answer.read_bytes()
+
+
+def time_cpython(case, runs):
+    engine, template, times = case.engine(), case.template(), []
     for _ in range(runs):
         begin = time.perf_counter()
-        text, number = pattern.subn(case.template(), case.subject, case.limit)
-        theirs.append(time.perf_counter() - begin)
-    agree = answer.read_bytes() == f"{token(text)} {number}\n".encode("ascii")
-    return min(ours), min(theirs), peak, request.stat().st_size, agree
+        text, number = engine.subn(template, case.subject, case.limit)
+        times.append(time.perf_counter() - begin)
+    return min(times), f"{workloads.formats.text_token(text)} {number}\n".encode("ascii")
 
 
-def main():
-    parser = argparse.ArgumentParser()
-    parser.add_argument("--characters", type=int, default=5_000_000)
-    parser.add_argument("--runs", type=int, default=3)
-    parser.add_argument("--program", type=pathlib.Path, default=PROGRAM)
-    asked = parser.parse_args()
-    if not asked.program.exists():
-        sys.exit(f"{asked.program} is not built: cd crates/sre_program && rt run -- sub < stdin")
-    print(f"{'case':18} {'request':>8} {'ours':>9} {'CPython':>9} {'ratio':>6} {'a char':>8} {'peak':>7}")
-    right = True
-    with tempfile.TemporaryDirectory() as folder:
-        for case in cases(asked.characters):
-            ours, theirs, peak, size, agree = measure(case, asked.program, pathlib.Path(folder), asked.runs)
-            right = right and agree
-            ratio, each = f"{ours / theirs:.2f}", f"{ours / len(case.subject) * 1e9:.0f} ns"
-            if case.name == "start":
-                ratio, each = "-", "-"
+def print_times(asked):
+    print(f"{'case':18} {'request':>8} {'ours':>8} {'frame':>8} {'CPython':>8} {'search':>7} {'whole':>7}"
+          f" {'a char':>8} {'peak':>7}")
+    right, all_cases = True, list(workloads.ten_workloads(asked.characters))
+    if asked.more:
+        all_cases += workloads.more_workloads(asked.characters)
+    with tempfile.TemporaryDirectory() as name:
+        folder = pathlib.Path(name)
+        for case in all_cases:
+            made = case.request()
+            ours, peak, answer = time_ours(asked.program, made, folder, asked.runs)
+            frame, _, _ = time_ours(asked.program, case.frame(), folder, asked.runs)
+            theirs, wanted = time_cpython(case, asked.runs)
+            right = right and answer == wanted
             print(
-                f"{case.name:18} {size / 1e6:5.1f} MB {ours * 1e3:6.0f} ms {theirs * 1e3:6.0f} ms"
-                f" {ratio:>6} {each:>8} {peak / 1024:4.0f} MB"
-                f"{'' if agree else '   THE RESULTS DIFFER'}",
+                f"{case.name:18} {len(made) / 1e6:5.1f} MB {ours * 1e3:5.0f} ms {frame * 1e3:5.0f} ms"
+                f" {theirs * 1e3:5.0f} ms {(ours - frame) / theirs:7.2f} {ours / theirs:7.2f}"
+                f" {(ours - frame) / len(case.subject) * 1e9:5.0f} ns {peak / 1024:4.0f} MB"
+                f"{'' if answer == wanted else '   THE RESULTS DIFFER'}",
                 flush=True,
             )
-    sys.exit(0 if right else 1)
+    return 0 if right else 1
+
+
+def counted(words, stdin, folder):
+    """How many instructions a process takes, by valgrind."""
+    out = folder / "callgrind.out"
+    tool = ["valgrind", "--tool=callgrind", f"--callgrind-out-file={out}"]
+    env = {**os.environ, "PYTHONHASHSEED": "0"}
+    run = subprocess.run([*tool, *words], input=stdin, capture_output=True, env=env)
+    found = re.search(rb"Collected : (\d+)", run.stderr)
+    if run.returncode != 0 or not found:
+        raise Fault(f"valgrind: {run.stderr.decode('utf-8', 'replace')[-300:]}")
+    return int(found[1])
+
+
+def count_case(program, characters, case):
+    """Ours, the frame and CPython's, in instructions."""
+    with tempfile.TemporaryDirectory() as name:
+        folder = pathlib.Path(name)
+        here = str(pathlib.Path(__file__).resolve().parent)
+        ours = counted([program, "sub"], case.request(), folder)
+        frame = counted([program, "sub"], case.frame(), folder)
+        python = [sys.executable, "-c", CPYTHON, here, str(characters), case.name]
+        call, idle = (counted([*python, what], b"", folder) for what in ("call", "idle"))
+        return ours, frame, call - idle
+
+
+def print_instructions(asked):
+    if shutil.which("valgrind") is None:
+        raise Fault("valgrind is not installed")
+    print(f"{'case':18} {'ours':>10} {'frame':>10} {'CPython':>10} {'search':>7} {'whole':>7} {'a char':>8}")
+    with concurrent.futures.ThreadPoolExecutor(asked.jobs) as pool:
+        listed = list(workloads.ten_workloads(asked.characters))
+        todo = [pool.submit(count_case, asked.program, asked.characters, case) for case in listed]
+        for case, done in zip(listed, todo):
+            ours, frame, theirs = done.result()
+            print(
+                f"{case.name:18} {ours / 1e6:8.2f} M {frame / 1e6:8.2f} M {theirs / 1e6:8.2f} M"
+                f" {(ours - frame) / theirs:7.2f} {ours / theirs:7.2f} {(ours - frame) / len(case.subject):8.0f}",
+                flush=True,
+            )
+    return 0
+
+
+def main(words=None):
+    raw = argparse.RawDescriptionHelpFormatter
+    parser = argparse.ArgumentParser(prog="substitute.py", description=__doc__, formatter_class=raw)
+    parser.add_argument("--characters", type=int, metavar="N",
+                        help="of the longest subject (5000000; 20000 for instructions)")
+    parser.add_argument("--runs", type=int, default=3, metavar="N", help="of which the shortest time counts (3)")
+    parser.add_argument("--more", action="store_true", help="also the cases of literal characters")
+    parser.add_argument("--instructions", action="store_true", help="count instructions by valgrind")
+    parser.add_argument("--jobs", type=int, default=os.cpu_count(), metavar="N", help="of --instructions, side by side")
+    parser.add_argument("--program", default=str(PROGRAM), metavar="PATH", help="the built program")
+    asked = parser.parse_args(words)
+    if not os.access(asked.program, os.X_OK):
+        print(f"{asked.program} is not built: cd crates/sre_program && rt run -- sub < stdin", file=sys.stderr)
+        return 2
+    if asked.characters is None:
+        asked.characters = 20_000 if asked.instructions else 5_000_000
+    try:
+        return print_instructions(asked) if asked.instructions else print_times(asked)
+    except (Fault, workloads.formats.FormatError) as fault:
+        print(f"substitute.py: {fault}", file=sys.stderr)
+        return 2
 
 
 if __name__ == "__main__":
-    main()
+    sys.exit(main())
