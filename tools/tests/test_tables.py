@@ -58,6 +58,18 @@ class Tables(unittest.TestCase):
                 if re.fullmatch(r"i-?[0-9]+", token):
                     self.assertTrue(number_calls.LEAST <= int(token[1:]) <= number_calls.MOST)
 
+    def test_the_stored_output_says_that_all_agree(self):
+        path = DATA.parent / "stdout"
+        if not path.exists():
+            self.skipTest("the program conformance is not there")
+        wanted, total = [], 0
+        for table in conformance_tables.TABLES:
+            lines = (DATA / f"{table}.table").read_text("ascii").splitlines()
+            counts = collections.Counter(line.partition(" ")[0] for line in lines)
+            wanted += [f"{table}.table", *(f"  {name} {n} of {n}" for name, n in counts.items())]
+            total += len(lines)
+        self.assertEqual(path.read_text("ascii").splitlines(), [*wanted, f"{total} of {total} calls agree"])
+
     @needs_cpython
     def test_powers_by_parity_are_those_of_small_exponents(self):
         for base in (-1, 0, 1):
