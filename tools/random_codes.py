@@ -2,6 +2,7 @@
 import grammar
 
 LETTERS = "aaaaabbbbcx1 \n_é\U0001F600"
+FEW = "aab"  # of which more matches, and longer
 DEPTH = 3
 
 
@@ -9,8 +10,8 @@ class Maker:
     """Makes one tree. Where it is `tame`, groups have different numbers in the order in which they begin,
     and no copy of a group and no condition on it stands inside the group."""
 
-    def __init__(self, chance, tame):
-        self.chance, self.tame = chance, tame
+    def __init__(self, chance, tame, letters):
+        self.chance, self.tame, self.letters = chance, tame, letters
         self.groups, self.open = 0, []
 
     def body(self, depth=0, least=0):
@@ -26,7 +27,7 @@ class Maker:
         return getattr(self, kind)(depth)
 
     def letter(self):
-        return ord(self.chance.choice(LETTERS))
+        return ord(self.chance.choice(self.letters))
 
     def fail(self, _depth):
         return ("fail",)
@@ -119,11 +120,13 @@ class Maker:
 
 def case(chance, tame):
     """A tree with its number of groups, a list that shows every group, a subject and a limit."""
-    maker = Maker(chance, tame)
+    letters = chance.choice([LETTERS, LETTERS, FEW])
+    maker = Maker(chance, tame, letters)
     body = maker.body(least=1)
     groups = maker.groups
     items = ["<"]
     for g in range(groups + 1):
         items += [g, "|" if g < groups else ">"]
-    subject = "".join(chance.choice(LETTERS) for _ in range(chance.choice([0, 1, 2, 3, 4, 5, 6, 8])))
+    length = chance.choice([0, 1, 2, 3, 4, 5, 6, 8] if letters is LETTERS else [6, 8, 10, 12, 14])
+    subject = "".join(chance.choice(letters) for _ in range(length))
     return body, groups, items, subject, chance.choice([0, 0, 0, 1, 2])
