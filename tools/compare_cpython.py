@@ -253,7 +253,7 @@ class Report:
         self.counts[verdict] += 1
         fault = verdict.isupper()
         self.faults += fault
-        if (fault or self.show) and verdict != SAME and self.shown[verdict] < (self.show or 10):
+        if verdict != SAME and self.shown[verdict] < (max(self.show, 10) if fault else self.show):
             self.shown[verdict] += 1
             print(f"  {verdict}: {case()}\n    here {ours!r}\n    wanted {theirs!r}")
 
@@ -273,7 +273,8 @@ def main(words=None):
                         help="how many codes are made by chance, and how many of these are damaged (2000)")
     parser.add_argument("--seed", type=int, default=1, metavar="N", help="what they are made from (1)")
     parser.add_argument("--jobs", type=int, default=os.cpu_count(), metavar="N", help="processes side by side")
-    parser.add_argument("--show", type=int, default=0, metavar="N", help="how many differences of each kind are shown")
+    parser.add_argument("--show", type=int, default=3, metavar="N",
+                        help="how many differences of each kind are shown (3); of those that are not listed at least 10")
     parser.add_argument("--or-skip", action="store_true", help="end with 0 where it cannot be compared here")
     asked = parser.parse_args(words)
     missing = what_is_missing(asked.program)
