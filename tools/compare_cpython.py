@@ -1,6 +1,6 @@
 #!/usr/bin/env python3
-r"""Compares the built program with CPython 3.11: on the patterns of CPython's own tests, on code words made
-by chance, and on every character by three categories.
+r"""Compares the built program with CPython 3.11: on the patterns of CPython's own tests, on code words and
+patterns made by chance, and on every character by three categories.
 
     python3 tools/compare_cpython.py [--program PATH] [--codes N] [--seed N] [--jobs N] [--show N] [--or-skip]
 
@@ -25,96 +25,23 @@ import concurrent.futures
 import os
 import pathlib
 import random
-import signal
-import subprocess
 import sys
 import unicodedata
 import warnings
 
 import code_reader
 import differences
-import formats
 import grammar
-import plain_match
+import judge
 import python_regex
 import random_codes
+import random_patterns
+from judge import LONG, SAME, Case
 
 TOP = pathlib.Path(__file__).resolve().parent.parent
 PROGRAM = TOP / "crates" / "sre_program" / "out" / "sre_program"
-SECONDS = 10  # for one search, here or there
-SAME, LONG = "agree", "takes too long"
 PIECE = 50  # cases that a process takes at a time
-
-
-class Case:
-    """Code words with their tree, a list, a subject and a limit."""
-
-    def __init__(self, name, body, words, groups, items, subject, limit=0):
-        self.name, self.body, self.words, self.groups = name, body, words, groups
-        self.items, self.subject, self.limit = items, subject, limit
-
-    def request(self):
-        return formats.sub_request("", self.words, self.groups, self.items, self.subject, self.limit)
-
-    def __str__(self):
-        words = " ".join(map(str, self.words))
-        return f"{self.name}: code {words}; groups {self.groups}; subject {self.subject!r}; limit {self.limit}"
-
-
-def by_program(program, case):
-    """What the program answers: the text and the count, or why there is neither."""
-    try:
-        run = subprocess.run([program, "sub"], input=case.request(), stdout=subprocess.PIPE, timeout=SECONDS)
-    except subprocess.TimeoutExpired:
-        return LONG
-    if run.returncode != 0:
-        return f"status {run.returncode}"
-    return formats.read_answer(run.stdout)[1:]
-
-
-class Late(Exception):
-    pass
-
-
-def ring(_signal, _frame):
-    raise Late
-
-
-def by_cpython(case):
-    """The same of CPython's engine."""
-    def filled(match):
-        return "".join(item if isinstance(item, str) else match[item] or "" for item in case.items)
-
-    signal.signal(signal.SIGALRM, ring)
-    signal.alarm(SECONDS)
-    try:
-        return python_regex.engine(case.words, case.groups).subn(filled, case.subject, case.limit)
-    except Late:
-        return LONG
-    except (RuntimeError, SystemError) as fault:
-        return type(fault).__name__
-    finally:
-        signal.alarm(0)
-
-
-def by_rules(case):
-    """The same of the plain reading."""
-    if case.body is None:
-        return "status 1"
-    try:
-        return plain_match.substituted(case.body, case.subject, case.items, case.limit)
-    except plain_match.TooLong:
-        return LONG
-
-
-def judged(program, case):
-    """How the two compare: a name, and what each answers."""
-    ours, theirs = by_program(program, case), by_cpython(case)
-    if ours == theirs:
-        return SAME, ours, theirs
-    if by_rules(case) != ours:
-        return "AGAINST THE RULES", ours, theirs
-    return differences.reason(case.body, case.subject) or "NOT LISTED", ours, theirs
+UNJUDGED = ("not judged", "refused by CPython")
 
 
 def random_case(seed, number):
@@ -125,7 +52,21 @@ def random_case(seed, number):
 
 
 def judge_random(program, seed, number):
-    return judged(program, random_case(seed, number))
+    return judge.judged(program, random_case(seed, number))
+
+
+def pattern_case(seed, number):
+    """A pattern as CPython compiles it; None where it refuses the pattern."""
+    pattern, subject = random_patterns.case(random.Random(f"{seed}/{number}/pattern"))
+    try:
+        return case_of_pattern(python_regex.Compiled(pattern), subject)
+    except python_regex.PatternError:
+        return None
+
+
+def judge_pattern(program, seed, number):
+    case = pattern_case(seed, number)
+    return (UNJUDGED[1], None, None) if case is None else judge.judged(program, case)
 
 
 def damaged_case(seed, number):
@@ -143,21 +84,21 @@ def damaged_case(seed, number):
 
 def judge_damaged(program, seed, number):
     case = damaged_case(seed, number)
-    ours, wanted = by_program(program, case), by_rules(case)
+    ours, wanted = judge.by_program(program, case), judge.by_rules(case)
     if LONG in (ours, wanted):  # as a huge least count of an empty body
-        return "not judged", ours, wanted
+        return UNJUDGED[0], ours, wanted
     return SAME if ours == wanted else "AGAINST THE RULES", ours, wanted
 
 
-def judge_piece(judge, program, seed, numbers):
-    return [(number, *judge(program, seed, number)) for number in numbers]
+def judge_piece(judge_one, program, seed, numbers):
+    return [(number, *judge_one(program, seed, number)) for number in numbers]
 
 
-def compare_by_chance(asked, report, title, make, judge):
+def compare_by_chance(asked, report, title, make, judge_one):
     report.begin(f"{title} (seed {asked.seed})")
     pieces = [range(i, min(i + PIECE, asked.codes)) for i in range(0, asked.codes, PIECE)]
     with concurrent.futures.ProcessPoolExecutor(asked.jobs) as pool:
-        todo = [pool.submit(judge_piece, judge, asked.program, asked.seed, piece) for piece in pieces]
+        todo = [pool.submit(judge_piece, judge_one, asked.program, asked.seed, piece) for piece in pieces]
         for done in todo:
             for number, verdict, ours, theirs in done.result():
                 report.add(verdict, lambda: make(asked.seed, number), ours, theirs)
@@ -191,7 +132,7 @@ def compare_tests(asked, report):
                 outside += 1
                 continue
         case = case_of_pattern(compiled, subject)
-        verdict, ours, theirs = judged(asked.program, case)
+        verdict, ours, theirs = judge.judged(asked.program, case)
         wanted = outcome == module.SUCCEED
         if verdict == SAME and (ours[1] > 0) != wanted:
             verdict = "AGAINST THE TABLE"
@@ -214,7 +155,7 @@ def compare_characters(asked, report):
         for pattern in (r"\d", r"\s", r"\w"):
             compiled = python_regex.Compiled(pattern)
             case = Case(pattern, compiled.body, compiled.words, 0, [""], half)
-            ours, theirs = by_program(asked.program, case), by_cpython(case)
+            ours, theirs = judge.by_program(asked.program, case), judge.by_cpython(case)
             if isinstance(ours, str) or isinstance(theirs, str):
                 report.add("NOT LISTED", lambda: pattern, ours, theirs)
                 continue
@@ -253,7 +194,7 @@ class Report:
         self.counts[verdict] += 1
         fault = verdict.isupper()
         self.faults += fault
-        if verdict != SAME and self.shown[verdict] < (max(self.show, 10) if fault else self.show):
+        if verdict != SAME and theirs is not None and self.shown[verdict] < (max(self.show, 10) if fault else self.show):
             self.shown[verdict] += 1
             print(f"  {verdict}: {case()}\n    here {ours!r}\n    wanted {theirs!r}")
 
@@ -261,7 +202,7 @@ class Report:
         if SAME in self.counts:
             print(f"  {self.counts.pop(SAME):8} agree")
         for verdict, number in sorted(self.counts.items()):
-            print(f"  {number:8} differ: {verdict}")
+            print(f"  {number:8} {'differ: ' * (verdict not in UNJUDGED)}{verdict}")
         self.counts.clear()
 
 
@@ -270,7 +211,7 @@ def main(words=None):
     parser = argparse.ArgumentParser(prog="compare_cpython.py", description=__doc__, formatter_class=raw)
     parser.add_argument("--program", default=str(PROGRAM), metavar="PATH", help="the built program")
     parser.add_argument("--codes", type=int, default=2000, metavar="N",
-                        help="how many codes are made by chance, and how many of these are damaged (2000)")
+                        help="how many codes and how many patterns are made by chance, and damaged codes (2000)")
     parser.add_argument("--seed", type=int, default=1, metavar="N", help="what they are made from (1)")
     parser.add_argument("--jobs", type=int, default=os.cpu_count(), metavar="N", help="processes side by side")
     parser.add_argument("--show", type=int, default=3, metavar="N",
@@ -284,6 +225,7 @@ def main(words=None):
     report = Report(asked.show)
     compare_tests(asked, report)
     compare_by_chance(asked, report, "random codes", random_case, judge_random)
+    compare_by_chance(asked, report, "random patterns", pattern_case, judge_pattern)
     compare_by_chance(asked, report, "damaged codes", damaged_case, judge_damaged)
     compare_characters(asked, report)
     report.end()

@@ -5,19 +5,19 @@ from unittest import mock
 from support import TOP, needs_cpython, run
 
 import code_reader
-import compare_cpython
 import differences
 import grammar
+import judge
 
 
 def case_of(words, subject, groups=0, items=("<", 0, ">")):
     body = code_reader.read(words, groups)
-    return compare_cpython.Case("test", body, words, groups, list(items), subject)
+    return judge.Case("test", body, words, groups, list(items), subject)
 
 
 def verdict(case, answer):
-    with mock.patch.object(compare_cpython, "by_program", lambda program, case: answer):
-        return compare_cpython.judged("", case)[0]
+    with mock.patch.object(judge, "by_program", lambda program, case: answer):
+        return judge.judged("", case)[0]
 
 
 @needs_cpython
@@ -48,12 +48,12 @@ class Judged(unittest.TestCase):
 
     def test_a_difference_that_is_not_listed_is_told(self):
         case = case_of([16, 97, 1], "a")
-        with mock.patch.object(compare_cpython, "by_cpython", lambda case: ("a", 0)):
+        with mock.patch.object(judge, "by_cpython", lambda case: ("a", 0)):
             self.assertEqual(verdict(case, ("<a>", 1)), "NOT LISTED")
 
     def test_words_that_spell_no_tree_have_no_answer(self):
-        case = compare_cpython.Case("test", None, [16, 97], 0, [""], "")
-        self.assertEqual(compare_cpython.by_rules(case), "status 1")
+        case = judge.Case("test", None, [16, 97], 0, [""], "")
+        self.assertEqual(judge.by_rules(case), "status 1")
 
 
 class Page(unittest.TestCase):
