@@ -41,7 +41,7 @@ from judge import LONG, SAME, Case
 TOP = pathlib.Path(__file__).resolve().parent.parent
 PROGRAM = TOP / "crates" / "sre_program" / "out" / "sre_program"
 PIECE = 50  # cases that a process takes at a time
-UNJUDGED = ("not judged", "refused by CPython")
+UNJUDGED = (judge.UNKNOWN, "refused by CPython")
 
 
 def random_case(seed, number):
@@ -86,7 +86,7 @@ def judge_damaged(program, seed, number):
     case = damaged_case(seed, number)
     ours, wanted = judge.by_program(program, case), judge.by_rules(case)
     if LONG in (ours, wanted):  # as a huge least count of an empty body
-        return UNJUDGED[0], ours, wanted
+        return judge.UNKNOWN, ours, wanted
     return SAME if ours == wanted else "AGAINST THE RULES", ours, wanted
 
 
@@ -194,7 +194,8 @@ class Report:
         self.counts[verdict] += 1
         fault = verdict.isupper()
         self.faults += fault
-        if verdict != SAME and theirs is not None and self.shown[verdict] < (max(self.show, 10) if fault else self.show):
+        most = max(self.show, 10) if fault else self.show
+        if verdict != SAME and theirs is not None and self.shown[verdict] < most:
             self.shown[verdict] += 1
             print(f"  {verdict}: {case()}\n    here {ours!r}\n    wanted {theirs!r}")
 
@@ -215,7 +216,7 @@ def main(words=None):
     parser.add_argument("--seed", type=int, default=1, metavar="N", help="what they are made from (1)")
     parser.add_argument("--jobs", type=int, default=os.cpu_count(), metavar="N", help="processes side by side")
     parser.add_argument("--show", type=int, default=3, metavar="N",
-                        help="how many differences of each kind are shown (3); of those that are not listed at least 10")
+                        help="how many differences of each kind are shown (3; of unlisted ones at least 10)")
     parser.add_argument("--or-skip", action="store_true", help="end with 0 where it cannot be compared here")
     asked = parser.parse_args(words)
     missing = what_is_missing(asked.program)

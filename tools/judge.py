@@ -9,7 +9,8 @@ import plain_match
 import python_regex
 
 SECONDS = 10  # for one search, here or there
-SAME, LONG = "agree", "takes too long"
+SAME, UNKNOWN, LONG = "agree", "not judged", "takes too long"
+INVALID = "status 1: error invalid_code"
 
 
 class Case:
@@ -34,8 +35,11 @@ def by_program(program, case):
     except subprocess.TimeoutExpired:
         return LONG
     if run.returncode != 0:
-        return f"status {run.returncode}"
-    return formats.read_answer(run.stdout)[1:]
+        return f"status {run.returncode}: {run.stdout.decode('ascii', 'replace').rstrip()}"
+    try:
+        return formats.read_answer(run.stdout)[1:]
+    except formats.FormatError as fault:
+        return f"no answer: {fault}"
 
 
 class Late(Exception):
@@ -66,7 +70,7 @@ def by_cpython(case):
 def by_rules(case):
     """The same of the plain reading."""
     if case.body is None:
-        return "status 1"
+        return INVALID
     try:
         return plain_match.substituted(case.body, case.subject, case.items, case.limit)
     except plain_match.TooLong:
@@ -77,7 +81,7 @@ def judged(program, case):
     """How the two compare: a name, and what each answers."""
     ours, theirs = by_program(program, case), by_cpython(case)
     if ours == theirs:
-        return SAME, ours, theirs
+        return UNKNOWN if ours == LONG else SAME, ours, theirs
     if by_rules(case) != ours:
         return "AGAINST THE RULES", ours, theirs
     return differences.reason(case.body, case.subject) or "NOT LISTED", ours, theirs

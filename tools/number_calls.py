@@ -93,7 +93,8 @@ SHIFTS = {"lshift": of_two(left, shift_count), "rshift": of_two(right, shift_cou
 def power(chance):
     if chance.random() < 0.5:
         base = chance.choice([0, 1, -1, 2, -2, 3, -3, 10, -10, 7, number(chance)])
-        exponent = chance.choice([-1, -5, 0, 1, 2, 3, 31, 37, 38, 39, 62, 63, 64, 80, 126, 127, 128, MOST, number(chance)])
+        exponents = [-1, -5, 0, 1, 2, 3, 31, 37, 38, 39, 62, 63, 64, 80, 126, 127, 128, MOST, number(chance)]
+        exponent = chance.choice(exponents)
         return [i(base), i(exponent), "-"], raised(base, exponent)
     base, exponent = number(chance), number(chance)
     modulus = chance.choice([0, 1, -1, 2, 9, -9, 2**61 - 1, MOST, LEAST, number(chance), number(chance)])
@@ -101,7 +102,8 @@ def power(chance):
 
 
 def power_exchanged(chance):
-    base, exponent = chance.choice([2, -2, 3, 10, number(chance)]), chance.choice([-1, *range(0, 130, 7), number(chance)])
+    base = chance.choice([2, -2, 3, 10, number(chance)])
+    exponent = chance.choice([-1, *range(0, 130, 7), number(chance)])
     return [i(exponent), i(base)], raised(base, exponent)
 
 

@@ -12,7 +12,7 @@ Examples:
 
     python3 tools/request.py sub '(a)|b' '<\1>' --text ab
     python3 tools/request.py sub '(?P<key>\w+)=(\w*)' '\2=\g<key>' --file settings.txt --limit 10
-    python3 tools/request.py sub '^#.*$' '' --flags m --file notes.txt | sre_program sub | python3 tools/answer.py --text
+    python3 tools/request.py sub '^#.*$' '' --flags m --file notes.txt > notes.request
 
 Ends with 0, or with 2 and a line on standard error where there is no such request: the pattern or the
 replacement is refused by CPython, the pattern ignores case or uses the locale, the file is not UTF-8,
