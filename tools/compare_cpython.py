@@ -56,17 +56,18 @@ def judge_random(program, seed, number):
 
 
 def pattern_case(seed, number):
-    """A pattern as CPython compiles it; None where it refuses the pattern."""
+    """A pattern as CPython compiles it."""
     pattern, subject = random_patterns.case(random.Random(f"{seed}/{number}/pattern"))
-    try:
-        return case_of_pattern(python_regex.Compiled(pattern), subject)
-    except python_regex.PatternError:
-        return None
+    return case_of_pattern(python_regex.Compiled(pattern), subject)
 
 
 def judge_pattern(program, seed, number):
-    case = pattern_case(seed, number)
-    return (UNJUDGED[1], None, None) if case is None else judge.judged(program, case)
+    try:
+        return judge.judged(program, pattern_case(seed, number))
+    except python_regex.NotInGrammar as fault:
+        return f"NOT IN THE GRAMMAR ({fault})".upper(), None, None
+    except python_regex.PatternError:
+        return UNJUDGED[1], None, None
 
 
 def damaged_case(seed, number):

@@ -19,6 +19,10 @@ class PatternError(Exception):
     """A pattern or a replacement that has no request, and why."""
 
 
+class NotInGrammar(PatternError):
+    """A pattern whose code words spell no tree, as those of one that ignores case in a part."""
+
+
 def what_is_missing():
     """Why this Python cannot be used; None where it can."""
     if sys.implementation.name == "cpython" and sys.version_info[:2] == (3, 11):
@@ -66,7 +70,7 @@ class Compiled:
         try:
             self.body = code_reader.read(self.words, self.groups)
         except code_reader.NoTree as fault:
-            raise PatternError(f"its code words are not in the grammar: {fault}") from None
+            raise NotInGrammar(f"its code words are not in the grammar: {fault}") from None
 
     def items(self, replacement):
         """The list of a replacement with references as `\\1` and `\\g<name>`."""
