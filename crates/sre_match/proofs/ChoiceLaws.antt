@@ -1,13 +1,13 @@
 -- The choices' numbers of marks, and what they stand for.
-use Rattle.std.proofs.Common.{◌≡◌, refl, sym, ap, subst, ◌∙◌, ℕ, zero, suc, ◌+◌, ◌≤◌, List, [], ◌∷◌, ◌++◌, take, length, arith, length-append}
-use Rattle.std.specs.Prelude.{Ok, Err, Result, OnOk}
+use Rattle.std.proofs.Common.{◌≡◌, refl, sym, ap, subst, ◌∙◌, ℕ, zero, suc, ◌+◌, ◌-◌, ◌<◌, ◌≤◌, List, [], ◌∷◌, ◌++◌, take, length, arith, length-append}
+use Rattle.std.specs.Prelude.{Ok, Err, Result, OnOk, slice_index_or}
 use Rattle.std.proofs.lemmas.List.{take-append-le}
 use Rattle.std.proofs.Math.Seq.{take-length}
 use Rattle.sre_match.specs.declared.trail.Kind.{Kind}
 use Rattle.sre_match.specs.declared.trail.Kind.TheVariants.{Try, Cut, Ahead, Not}
 use Rattle.sre_match.specs.declared.trail.Choice.{Choice}
 use Rattle.sre_match.specs.Attempts.{Attempt, failed, passed, Marks, Next, charge, after, cut, back_to, refused}
-use Rattle.sre_match.specs.Machine.{onward, Frames, wrap, pile, Rising, Stacked, levels, level_of}
+use Rattle.sre_match.specs.Machine.{part_next, onward, Frames, wrap, pile, Rising, Stacked, levels, level_of}
 use Rattle.sre_match.proofs.FrameLaws.{onward_grow, onward_cut}
 use Rattle.sre_match.proofs.AfterLaws.{IsFull, IsTotal, charge_append, append_full, after-charge, after_full, stay_after}
 
@@ -31,12 +31,12 @@ rising_grow low cs m x r = rising_weak low cs (length m) (length (m ++ x)) r (om
 pub pile_grow : (s : List ℕ) (fs : Frames) (low : ℕ) (cs : List Choice) (m x : Marks) (xs : List Attempt) → Rising low cs (length m) → pile s fs (m ++ x) cs xs ≡ pile s fs m cs xs
 pile_grow s fs low [] m x xs r = refl
 pile_grow s fs low (c ∷ cs) m x xs r =
-    λ i. wrap c.kind (onward fs c.step c.rest s) c.place (take-append-le c.marks m x (rising_below c.marks cs (length m) r.1) i) (pile_grow s fs c.marks cs m x xs r.1 i)
+    λ i. wrap c.kind (onward fs (part_next c.part s) c.rest s) c.place (take-append-le c.marks m x (rising_below c.marks cs (length m) r.1) i) (pile_grow s fs c.marks cs m x xs r.1 i)
 
 pub pile_cut : (s : List ℕ) (fs : Frames) (low : ℕ) (cs : List Choice) (n : ℕ) (m : Marks) (xs : List Attempt) → Rising low cs n → pile s fs (take n m) cs xs ≡ pile s fs m cs xs
 pile_cut s fs low [] n m xs r = refl
 pile_cut s fs low (c ∷ cs) n m xs r =
-    λ i. wrap c.kind (onward fs c.step c.rest s) c.place (take_take c.marks n m (rising_below c.marks cs n r.1) i) (pile_cut s fs c.marks cs n m xs r.1 i)
+    λ i. wrap c.kind (onward fs (part_next c.part s) c.rest s) c.place (take_take c.marks n m (rising_below c.marks cs n r.1) i) (pile_cut s fs c.marks cs n m xs r.1 i)
 
 pub rising_push : (low : ℕ) (cs : List Choice) (c : Choice) (high : ℕ) → Rising low cs high → c.marks ≡ high → Rising low (cs ++ c ∷ []) high
 rising_push low [] c high r e = (omega (arith, r, e), omega (arith, e))
@@ -46,9 +46,9 @@ pub rising_pop : (low : ℕ) (cs : List Choice) (c : Choice) (high : ℕ) → Ri
 rising_pop low [] c high r = (r.0, r.1)
 rising_pop low (d ∷ cs) c high r = let h = rising_pop d.marks cs c high r.1 in ((r.0, h.0), h.1)
 
-pub pile_last : (s : List ℕ) (fs : Frames) (m : Marks) (cs : List Choice) (c : Choice) (xs : List Attempt) → pile s fs m (cs ++ c ∷ []) xs ≡ pile s fs m cs (wrap c.kind (onward fs c.step c.rest s) c.place (take c.marks m) xs)
+pub pile_last : (s : List ℕ) (fs : Frames) (m : Marks) (cs : List Choice) (c : Choice) (xs : List Attempt) → pile s fs m (cs ++ c ∷ []) xs ≡ pile s fs m cs (wrap c.kind (onward fs (part_next c.part s) c.rest s) c.place (take c.marks m) xs)
 pile_last s fs m [] c xs = refl
-pile_last s fs m (d ∷ cs) c xs = ap (wrap d.kind (onward fs d.step d.rest s) d.place (take d.marks m)) (pile_last s fs m cs c xs)
+pile_last s fs m (d ∷ cs) c xs = ap (wrap d.kind (onward fs (part_next d.part s) d.rest s) d.place (take d.marks m)) (pile_last s fs m cs c xs)
 
 pub level_most : (k : Kind) → level_of k ≤ 1
 level_most Try = omega arith
@@ -65,10 +65,10 @@ levels_last [] c = omega arith
 levels_last (d ∷ cs) c = omega (arith, levels_last cs c)
 
 -- in the form that a push and a pop meet
-pub pile_keep : (s : List ℕ) (fs : Frames) (m : Marks) (cs ds : List Choice) (c : Choice) (xs : List Attempt) → ds ≡ cs ++ c ∷ [] → c.marks ≡ length m → pile s fs m ds xs ≡ pile s fs m cs (wrap c.kind (onward fs c.step c.rest s) c.place m xs)
+pub pile_keep : (s : List ℕ) (fs : Frames) (m : Marks) (cs ds : List Choice) (c : Choice) (xs : List Attempt) → ds ≡ cs ++ c ∷ [] → c.marks ≡ length m → pile s fs m ds xs ≡ pile s fs m cs (wrap c.kind (onward fs (part_next c.part s) c.rest s) c.place m xs)
 pile_keep s fs m cs ds c xs h e =
     ap (λ es. pile s fs m es xs) h ∙ pile_last s fs m cs c xs
-    ∙ ap (λ l. pile s fs m cs (wrap c.kind (onward fs c.step c.rest s) c.place l xs)) (ap (λ n. take n m) e ∙ take-length m)
+    ∙ ap (λ l. pile s fs m cs (wrap c.kind (onward fs (part_next c.part s) c.rest s) c.place l xs)) (ap (λ n. take n m) e ∙ take-length m)
 
 pub rising_keep : (low : ℕ) (cs ds : List Choice) (c : Choice) (high : ℕ) → Rising low cs high → ds ≡ cs ++ c ∷ [] → c.marks ≡ high → Rising low ds high
 rising_keep low cs ds c high r h e = let P : List Choice → Type 0 = λ xs. Rising low xs high in subst P (sym h) (rising_push low cs c high r e)
@@ -81,7 +81,7 @@ pub rising_drop : (m : Marks) (ds cs : List Choice) (c : Choice) → ds ≡ cs +
 rising_drop m ds cs c e r = let h = rising_at 0 ds cs c (length m) e r in rising_weak 0 cs c.marks (length m) h.0 h.1
 
 pub pile_drop : (s : List ℕ) (fs : Frames) (m : Marks) (ds cs : List Choice) (c : Choice) (xs : List Attempt) → ds ≡ cs ++ c ∷ []
-    → pile s fs m ds xs ≡ pile s fs m cs (wrap c.kind (onward fs c.step c.rest s) c.place (take c.marks m) xs)
+    → pile s fs m ds xs ≡ pile s fs m cs (wrap c.kind (onward fs (part_next c.part s) c.rest s) c.place (take c.marks m) xs)
 pile_drop s fs m ds cs c xs e = ap (λ es. pile s fs m es xs) e ∙ pile_last s fs m cs c xs
 
 pub levels_back : (ds cs : List Choice) (c : Choice) → ds ≡ cs ++ c ∷ [] → levels ds ≡ levels cs + level_of c.kind
@@ -146,16 +146,16 @@ wrap_fail Not f p m c xs = refl
 pub pile_fail : (s : List ℕ) (fs : Frames) (m : Marks) (cs : List Choice) (c : ℕ) (xs : List Attempt) → pile s fs m cs (failed c ∷ xs) ≡ failed c ∷ pile s fs m cs xs
 pile_fail s fs m [] c xs = refl
 pile_fail s fs m (d ∷ cs) c xs =
-    ap (wrap d.kind (onward fs d.step d.rest s) d.place (take d.marks m)) (pile_fail s fs m cs c xs) ∙ wrap_fail d.kind (onward fs d.step d.rest s) d.place (take d.marks m) c (pile s fs m cs xs)
+    ap (wrap d.kind (onward fs (part_next d.part s) d.rest s) d.place (take d.marks m)) (pile_fail s fs m cs c xs) ∙ wrap_fail d.kind (onward fs (part_next d.part s) d.rest s) d.place (take d.marks m) c (pile s fs m cs xs)
 
 -- and a cost, where there is an attempt
-pub pile_charge : (s : List ℕ) (fs : Frames) (m : Marks) (cs : List Choice) (c : ℕ) (xs : List Attempt) → IsFull xs → ((d : Choice) → IsTotal (onward fs d.step d.rest s))
+pub pile_charge : (s : List ℕ) (fs : Frames) (m : Marks) (cs : List Choice) (c : ℕ) (xs : List Attempt) → IsFull xs → ((d : Choice) → IsTotal (onward fs (part_next d.part s) d.rest s))
     → (pile s fs m cs (charge c xs) ≡ charge c (pile s fs m cs xs)) × IsFull (pile s fs m cs xs)
 pile_charge s fs m [] c xs h t = (refl, h)
 pile_charge s fs m (d ∷ cs) c xs h t =
     let more = pile_charge s fs m cs c xs h t in (
-      ap (wrap d.kind (onward fs d.step d.rest s) d.place (take d.marks m)) more.0 ∙ wrap_charge d.kind (onward fs d.step d.rest s) d.place (take d.marks m) c (pile s fs m cs xs) (t d) more.1,
-      wrap_full d.kind (onward fs d.step d.rest s) d.place (take d.marks m) (pile s fs m cs xs) (t d) more.1,
+      ap (wrap d.kind (onward fs (part_next d.part s) d.rest s) d.place (take d.marks m)) more.0 ∙ wrap_charge d.kind (onward fs (part_next d.part s) d.rest s) d.place (take d.marks m) c (pile s fs m cs xs) (t d) more.1,
+      wrap_full d.kind (onward fs (part_next d.part s) d.rest s) d.place (take d.marks m) (pile s fs m cs xs) (t d) more.1,
     )
 
 -- outside all cuts so does a match
@@ -168,8 +168,8 @@ wrap_pass Not f q n p m xs h = let g : ⊥ = omega (arith, h) in absurd g
 pub pile_pass : (s : List ℕ) (fs : Frames) (l : Marks) (cs : List Choice) (p : ℕ) (m : Marks) (xs : List Attempt) → levels cs ≡ 0 → pile s fs l cs (passed 0 p m ∷ xs) ≡ passed 0 p m ∷ pile s fs l cs xs
 pile_pass s fs l [] p m xs h = refl
 pile_pass s fs l (c ∷ cs) p m xs h =
-    ap (wrap c.kind (onward fs c.step c.rest s) c.place (take c.marks l)) (pile_pass s fs l cs p m xs (omega (arith, h)))
-    ∙ wrap_pass c.kind (onward fs c.step c.rest s) c.place (take c.marks l) p m (pile s fs l cs xs) (omega (arith, h))
+    ap (wrap c.kind (onward fs (part_next c.part s) c.rest s) c.place (take c.marks l)) (pile_pass s fs l cs p m xs (omega (arith, h)))
+    ∙ wrap_pass c.kind (onward fs (part_next c.part s) c.rest s) c.place (take c.marks l) p m (pile s fs l cs xs) (omega (arith, h))
 
 -- a choice that goes back to marks within
 pub rewound : (s : List ℕ) (fs : Frames) (cs : List Choice) (n : ℕ) (m : Marks) (xs : List Attempt) → Rising 0 cs n → pile s fs (take n m) cs xs ≡ pile s fs m cs xs
@@ -211,13 +211,21 @@ stacked_drop fs ds cs c e r = let h = stacked_at 0 ds cs c (length fs) e r in st
 pub pile_frames_grow : (s : List ℕ) (fs gs : Frames) (low : ℕ) (cs : List Choice) (m : Marks) (xs : List Attempt) → Stacked low cs (length fs) → pile s (fs ++ gs) m cs xs ≡ pile s fs m cs xs
 pile_frames_grow s fs gs low [] m xs r = refl
 pile_frames_grow s fs gs low (c ∷ cs) m xs r =
-    λ i. wrap c.kind (onward_grow fs gs c.step c.rest s (omega (arith, r.1, stacked_below c.frames cs (length fs) r.2)) i) c.place (take c.marks m) (pile_frames_grow s fs gs c.frames cs m xs r.2 i)
+    λ i. wrap c.kind (onward_grow fs gs (part_next c.part s) c.rest s (omega (arith, r.1, stacked_below c.frames cs (length fs) r.2)) i) c.place (take c.marks m) (pile_frames_grow s fs gs c.frames cs m xs r.2 i)
 
 pub pile_frames_cut : (s : List ℕ) (fs : Frames) (n low : ℕ) (cs : List Choice) (m : Marks) (xs : List Attempt) → Stacked low cs n → n ≤ length fs → pile s (take n fs) m cs xs ≡ pile s fs m cs xs
 pile_frames_cut s fs n low [] m xs r h = refl
 pile_frames_cut s fs n low (c ∷ cs) m xs r h =
-    λ i. wrap c.kind (onward_cut fs n c.step c.rest s (omega (arith, r.1, stacked_below c.frames cs n r.2)) h i) c.place (take c.marks m) (pile_frames_cut s fs n c.frames cs m xs r.2 h i)
+    λ i. wrap c.kind (onward_cut fs n (part_next c.part s) c.rest s (omega (arith, r.1, stacked_below c.frames cs n r.2)) h i) c.place (take c.marks m) (pile_frames_cut s fs n c.frames cs m xs r.2 h i)
 
 -- both go back
 pub rewound_all : (s : List ℕ) (fs : Frames) (cs : List Choice) (n k : ℕ) (m : Marks) (xs : List Attempt) → Rising 0 cs n → Stacked 0 cs k → k ≤ length fs → pile s (take k fs) (take n m) cs xs ≡ pile s fs m cs xs
 rewound_all s fs cs n k m xs r t h = pile_frames_cut s fs k 0 cs (take n m) xs t h ∙ rewound s fs cs n m xs r
+
+-- the frames may end where the newest choice's do
+pub stacked_last : (low : ℕ) (cs : List Choice) (high n : ℕ) (d : Choice) → Stacked low cs high → 0 < length cs → d ≡ slice_index_or cs (length cs - 1) d → d.frames ≤ n → Stacked low cs n
+stacked_last low [] high n d r z e h = let f : ⊥ = omega (arith, z) in absurd f
+stacked_last low (c ∷ []) high n d r z e h = (r.0, r.1, omega (arith, h, ap (λ (x : Choice). x.frames) e))
+stacked_last low (c ∷ b ∷ cs) high n d r z e h =
+    let k : length (c ∷ b ∷ cs) - 1 ≡ suc (length (b ∷ cs) - 1) = omega arith in
+    (r.0, r.1, stacked_last c.frames (b ∷ cs) high n d r.2 (omega arith) (e ∙ ap (λ i. slice_index_or (c ∷ b ∷ cs) i d) k) h)

@@ -9,6 +9,10 @@ pub mod ChoiceLaws
 pub mod TurnLaws
 pub mod UnitLaws
 pub mod SetLaws
+pub mod LessLaws
 pub mod Leading
+pub mod LeafLaws
+pub mod RunLaws
+pub mod BranchLaws
 pub mod Nexts
 pub mod Spans

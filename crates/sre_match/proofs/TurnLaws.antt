@@ -1,27 +1,37 @@
--- One turn of the machine, on what is still to be tried.
+-- One turn of the machine: what has an attempt, and nodes and trees one after another.
 use Rattle.std.proofs.Math.Seq.{take-length}
 use Rattle.sre_code.specs.declared.tree.Node.{Node}
-use Rattle.std.proofs.Common.{◌≤◌, ◌-◌, take, drop, length, get_or, arith, subst, ◌≡◌, refl, sym, ap, ◌∙◌, ℕ, zero, suc, true, List, [], ◌∷◌, ◌++◌}
-use Rattle.std.specs.Prelude.{Result, Ok, Err, IfOk, Some}
+use Rattle.std.proofs.Common.{◌≤◌, ◌-◌, take, drop, length, get_or, arith, ◌≡◌, refl, sym, ap, ◌∙◌, ℕ, zero, suc, true, false, List, [], ◌∷◌, ◌++◌}
+use Rattle.std.specs.Prelude.{Some}
 use Rattle.std.proofs.lemmas.List.{append-nil}
+use Rattle.sre_match.specs.declared.trail.Part.{Part}
+use Rattle.sre_match.specs.declared.trail.Part.TheVariants.{Skip, Nodes, Trees, Back, Once}
 use Rattle.sre_match.specs.declared.trail.Step.{Step}
-use Rattle.sre_match.specs.declared.trail.Step.TheVariants.{Skip, Nodes, Trees, Rep, Again, Close}
+use Rattle.sre_match.specs.declared.trail.Step.TheVariants.{Then, Rep, Again, Close}
 use Rattle.sre_match.specs.declared.trail.Trail.{Trail}
-use Rattle.sre_match.specs.declared.turns.Turn.{Turn}
-use Rattle.sre_match.specs.declared.turns.Turn.TheVariants.{Go, Fail, Done}
 use Rattle.sre_code.specs.PlainTree.{PlainNode, PlainTree, nothing, ◌then◌, only, ◌or◌}
 use Rattle.sre_code.specs.TreeView.{tree_of, trees_of, node_of}
 use Rattle.sre_match.specs.Attempts.{Attempt, failed, passed, Marks, Next, stay, charge, after, closed_from}
 use Rattle.sre_match.specs.Paths.{paths, node_paths, attempt}
-use Rattle.sre_match.specs.Machine.{step_next, run, onward, Frames, behind, built, to_try, Gives, Moves}
-use Rattle.sre_match.proofs.AfterLaws.{IsTotal, IsFull, charge_zero, after_full, after_after, after_stay, stay_after}
+use Rattle.sre_match.specs.Repeats.{optional}
+use Rattle.sre_match.specs.Machine.{passes_down, part_next, step_next, run, onward, Frames, behind, built, to_try}
+use Rattle.sre_match.proofs.AfterLaws.{IsTotal, IsFull, after_full, after_after, after_stay, stay_after}
 use Rattle.sre_match.proofs.FullLaws.{full, all_full, rep_full, optional_full}
-use Rattle.sre_match.proofs.ChoiceLaws.{pile_charge, pile_fail}
+use Rattle.sre_match.proofs.ChoiceLaws.{pile_charge}
+
+down_full : (n : ℕ) → IsTotal (passes_down n)
+down_full zero p m = tt
+down_full (suc n) p m = tt
+
+pub part_full : (part : Part) (s : List ℕ) → IsTotal (part_next part s)
+part_full Skip s p m = tt
+part_full (Nodes ns) s p m = full (tree_of ns.now) s p m
+part_full (Trees ts) s p m = all_full (trees_of ts.now) s p m
+part_full (Back n) s p m = down_full n p m
+part_full (Once body j) s p m = after_full (paths body.now s p m) (optional (paths body.now s) false j (Some p)) (full body.now s p m) (optional_full (paths body.now s) false j (Some p) (full body.now s))
 
 pub step_full : (step : Step) (s : List ℕ) → IsTotal (step_next step s)
-step_full Skip s p m = tt
-step_full (Nodes ns) s p m = full (tree_of ns.now) s p m
-step_full (Trees ts) s p m = all_full (trees_of ts.now) s p m
+step_full (Then ns) s p m = full (tree_of ns.now) s p m
 step_full (Rep greedy k body j) s p m = rep_full (paths body.now s) greedy k j (full body.now s) p m
 step_full (Again greedy body j q) s p m = optional_full (paths body.now s) greedy j (Some q) (full body.now s) p m
 step_full (Close g q) s p m = tt
@@ -46,32 +56,15 @@ stay_full (suc i) p m = tt
 pub run_full : (fs : Frames) (i : ℕ) (s : List ℕ) → IsTotal (run fs i s)
 run_full fs i s = built_full s (stay ∷ []) fs stay_full i
 
-pub onward_full : (fs : Frames) (step : Step) (i : ℕ) (s : List ℕ) → IsTotal (onward fs step i s)
-onward_full fs step i s p m = after_full (step_next step s p m) (run fs i s) (step_full step s p m) (run_full fs i s)
+pub onward_full : (fs : Frames) (f : Next) (i : ℕ) (s : List ℕ) → IsTotal f → IsTotal (onward fs f i s)
+onward_full fs f i s h p m = after_full (f p m) (run fs i s) (h p m) (run_full fs i s)
+
+pub part_onward : (fs : Frames) (part : Part) (i : ℕ) (s : List ℕ) → IsTotal (onward fs (part_next part s) i s)
+part_onward fs part i s = onward_full fs (part_next part s) i s (part_full part s)
 
 -- a cost in front of all that is to be tried
 pub to_try_charge : (s : List ℕ) (t : Trail) (c : ℕ) (xs : List Attempt) → IsFull xs → (to_try s t (charge c xs) ≡ charge c (to_try s t xs)) × IsFull (to_try s t xs)
-to_try_charge s t c xs h = pile_charge s t.frames.items t.marks.items t.choices.items c xs h (λ d. onward_full t.frames.items d.step d.rest s)
-
--- a move of what is tried now, before the choices
-pub gives : (t : Turn) (s : List ℕ) (r : Trail) (xs : List Attempt) → Moves t r.frames.items s r.marks.items xs → Gives t s r (to_try s r xs)
-gives (Go c step rest p) s r xs h = ap (to_try s r) h ∙ (to_try_charge s r c (onward r.frames.items step rest s p r.marks.items) (onward_full r.frames.items step rest s p r.marks.items)).0
-gives (Fail c) s r xs h = ap (to_try s r) h ∙ pile_fail s r.frames.items r.marks.items r.choices.items c []
-gives (Done p) s r xs h = absurd h
-
-pub gives_by : (t : Turn) (s : List ℕ) (r : Trail) (ys xs : List Attempt) → ys ≡ xs → Moves t r.frames.items s r.marks.items xs → Gives t s r (to_try s r ys)
-gives_by t s r ys xs e h = let P : List Attempt → Type 0 = λ zs. Gives t s r (to_try s r zs) in subst P (sym e) (gives t s r xs h)
-
-pub gives_from : (t : Turn) (s : List ℕ) (new old : Trail) (ys xs : List Attempt) → ys ≡ xs → Gives t s new (to_try s old xs) → Gives t s new (to_try s old ys)
-gives_from t s new old ys xs e h = let P : List Attempt → Type 0 = λ zs. Gives t s new (to_try s old zs) in subst P (sym e) h
-
--- more to do, where nothing else changes
-pub go_on : (s : List ℕ) (t : Trail) (xs us : List Attempt) → us ≡ xs → to_try s t xs ≡ charge 0 (to_try s t us)
-go_on s t xs us e = ap (to_try s t) (sym e) ∙ sym (charge_zero (to_try s t us))
-
--- no node is left
-pub none_left : (s : List ℕ) (p : ℕ) (m : Marks) (f : Next) → after (stay p m) f ≡ charge 0 (f p m)
-none_left s p m f = stay_after p m f ∙ sym (charge_zero (f p m))
+to_try_charge s t c xs h = pile_charge s t.frames.items t.marks.items t.choices.items c xs h (λ d. part_onward t.frames.items d.part d.rest s)
 
 -- a node and the rest of its tree
 pub node_first : (n : PlainNode) (t : PlainTree) (s : List ℕ) (p : ℕ) (m : Marks) (r f : Next) → IsTotal r → ((e : ℕ) (l : Marks) → f e l ≡ after (paths t s e l) r)
@@ -79,10 +72,7 @@ pub node_first : (n : PlainNode) (t : PlainTree) (s : List ℕ) (p : ℕ) (m : M
 node_first n t s p m r f k h =
     after_after (node_paths n s p m) (paths t s) r k ∙ ap (λ (g : Next). after (node_paths n s p m) g) (λ i e l. sym (h e l) i)
 
--- one unit
-pub unit_met : (e : ℕ) (m : Marks) (f : Next) → after (attempt true 1 e m) f ≡ charge 1 (f e m)
-unit_met e m f = append-nil (charge 1 (f e m))
-
+-- one attempt
 pub passed_on : (c e : ℕ) (m : Marks) (f : Next) → after (attempt true c e m) f ≡ charge c (f e m)
 passed_on c e m f = append-nil (charge c (f e m))
 
@@ -101,16 +91,6 @@ tree_split (x ∷ xs) n h e =
     let l : length (x ∷ xs) - 1 ≡ length xs = omega arith in
     ap (λ y. node_of y then tree_of xs) (sym e) ∙ ap (λ ys. node_of n then tree_of ys) (sym (ap (λ k. take k xs) l ∙ take-length xs))
 
-pub if_ok : {T E : Type 0} {P Q : T → Type 0} (r : Result T E) → ((t : T) → P t → Q t) → IfOk r P → IfOk r Q
-if_ok (Ok t) f h = f t h
-if_ok (Err e) f h = h
-
-pub moves_by : (t : Turn) (fs : Frames) (s : List ℕ) (m : Marks) (xs ys : List Attempt) → ys ≡ xs → Moves t fs s m xs → Moves t fs s m ys
-moves_by t fs s m xs ys e h = let P : List Attempt → Type 0 = λ zs. Moves t fs s m zs in subst P (sym e) h
-
-pub move_on : (xs us : List Attempt) → us ≡ xs → xs ≡ charge 0 us
-move_on xs us e = sym e ∙ sym (charge_zero us)
-
 -- an iteration, and then the rest of the repeat
 pub once_more : (body f g : Next) (h : Next) (k : Next) (p : ℕ) (m : Marks) → IsTotal k → ((e : ℕ) (l : Marks) → h e l ≡ after (g e l) k) → after (after (body p m) g) k ≡ after (body p m) h
 once_more body f g h k p m t e = after_after (body p m) g k t ∙ ap (λ (x : Next). after (body p m) x) (λ i a b. sym (e a b) i)
@@ -125,23 +105,6 @@ alone [] t h e = let f : ⊥ = omega (arith, h) in absurd f
 alone (x ∷ []) t h e = ap (λ y. only y) (sym e)
 alone (x ∷ y ∷ ts) t h e = let f : ⊥ = omega (arith, h) in absurd f
 
--- a node by what it was found to be
-pub node_moves : (n k : Node) (t : Turn) (s : List ℕ) (p : ℕ) (r : Trail) (f : Next) → n ≡ k → Moves t r.frames.items s r.marks.items (after (node_paths (node_of k) s p r.marks.items) f)
-    → Gives t s r (to_try s r (after (node_paths (node_of n) s p r.marks.items) f))
-node_moves n k t s p r f e h =
-    gives_by t s r (after (node_paths (node_of n) s p r.marks.items) f) (after (node_paths (node_of k) s p r.marks.items) f) (ap (λ x. after (node_paths (node_of x) s p r.marks.items) f) e) h
-
-pub node_gives : (n k : Node) (t : Turn) (s : List ℕ) (p : ℕ) (new old : Trail) (f : Next) → n ≡ k → Gives t s new (to_try s old (after (node_paths (node_of k) s p old.marks.items) f))
-    → Gives t s new (to_try s old (after (node_paths (node_of n) s p old.marks.items) f))
-node_gives n k t s p new old f e h =
-    gives_from t s new old (after (node_paths (node_of n) s p old.marks.items) f) (after (node_paths (node_of k) s p old.marks.items) f) (ap (λ x. after (node_paths (node_of x) s p old.marks.items) f) e) h
-
--- a step by what it was found to be
-pub step_gives : (n k : Step) (t : Turn) (s : List ℕ) (p : ℕ) (new old : Trail) (f : Next) → n ≡ k → Gives t s new (to_try s old (after (step_next k s p old.marks.items) f))
-    → Gives t s new (to_try s old (after (step_next n s p old.marks.items) f))
-step_gives n k t s p new old f e h =
-    gives_from t s new old (after (step_next n s p old.marks.items) f) (after (step_next k s p old.marks.items) f) (ap (λ x. after (step_next x s p old.marks.items) f) e) h
-
 -- the last node
 pub tree_last : (ns : List Node) (n : Node) → length ns ≡ 1 → n ≡ get_or ns 0 n → tree_of ns ≡ node_of n then nothing
 tree_last [] n h e = let f : ⊥ = omega (arith, h) in absurd f
@@ -150,7 +113,3 @@ tree_last (x ∷ y ∷ xs) n h e = let f : ⊥ = omega (arith, h) in absurd f
 
 pub node_last : (n : PlainNode) (s : List ℕ) (p : ℕ) (m : Marks) (f : Next) → after (paths (n then nothing) s p m) f ≡ after (node_paths n s p m) f
 node_last n s p m f = ap (λ l. after l f) (after_stay (node_paths n s p m))
-
--- two choices of what to do, where the later one is kept
-pub gives_kept : (t : Turn) (s : List ℕ) (new mid old : Trail) (ys xs : List Attempt) → to_try s mid xs ≡ to_try s old ys → Gives t s new (to_try s mid xs) → Gives t s new (to_try s old ys)
-gives_kept t s new mid old ys xs e h = let P : List Attempt → Type 0 = λ zs. Gives t s new zs in subst P e h

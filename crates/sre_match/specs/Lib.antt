@@ -8,5 +8,7 @@ pub mod Matches
 pub mod Search
 pub mod Filling
 pub mod Laws
+pub mod Singles
+pub mod Branches
 pub mod Machine
 pub mod Rows

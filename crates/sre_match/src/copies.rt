@@ -2,15 +2,15 @@
 
 ghost use Rattle.std.specs.Prelude.{◌≡◌, ◌+◌, ◌*◌, ◌≤◌, ℕ, List, Some, drop, length, slice_range, nat_eq};
 ghost use Rattle.std.specs.List.{starts_with};
-ghost use Rattle.sre_match.specs.Machine.{run, Frames, Moves, Below, spent};
-ghost use Rattle.sre_match.specs.Attempts.{after, Marks, span_of};
+ghost use Rattle.sre_match.specs.Machine.{run, to_try, Sound, Gives, Stands};
+ghost use Rattle.sre_match.specs.Attempts.{after, span_of};
 ghost use Rattle.sre_match.specs.Paths.{node_paths, copy};
 ghost use Rattle.sre_code.specs.PlainTree.{ref};
 ghost use Rattle.sre_code.specs.TreeView.{node_of};
 
 use crate::marks::{Closed, span_in};
-use crate::trail::{Step, Trail};
-use crate::turns::{Turn, tree_turn};
+use crate::trail::{At, Part, Trail, Turn};
+use crate::turns::tree_turn;
 use crate::units::Cut;
 use crate::view::StrDrive;
 use py_base::Steps;
@@ -58,46 +58,47 @@ fn same_text<S: StrDrive, L: Ledger>(
 fn copy_turn<'t, S: StrDrive, L: Ledger>(
     start: usize,
     stop: usize,
-    rest: usize,
     s: &Cut<'_, S>,
-    p: usize,
+    at: &mut At<'t>,
     trail: &Trail<'t>,
     steps: &mut Steps<L>,
-) -> Turn<'t>
-    requires { stop ≤ length s.now }
-    ensures moves { (m : Marks) → Moves result trail.now.frames.items s.now m (after (copy (Some (start, stop)) s.now p m) (run trail.now.frames.items rest s.now)) }
-    ensures cost { steps.new ≤ steps.old + spent result }
-    ensures below { (n : ℕ) → rest ≤ n → Below result n }
+) -> Turn
+    requires stop { stop ≤ length s.now }
+    requires sound { Sound trail.now }
+    requires deep { at.old.rest ≤ length trail.now.frames.items }
+    ensures gives { Gives result at.new s.now trail.now steps.old steps.new (to_try s.now trail.now (after (copy (Some (start, stop)) s.now at.old.place trail.now.marks.items) (run trail.now.frames.items at.old.rest s.now))) }
+    ensures stands { Stands result at.new trail.now }
 {
     let n = if start < stop { stop - start } else { 0 };
     let _count = s.count();
-    let cost = 2 * (n as u64);
-    if same_text(s, start, stop, p, steps) {
-        Turn::Go(cost, Step::Skip, rest, p + n)
+    if same_text(s, start, stop, at.place, steps) {
+        at.part = Part::Skip;
+        at.place += n;
+        Turn::Go
     } else {
-        Turn::Fail(cost)
+        Turn::Fail
     }
 }
 
 /// A copy of a group's units is next.
 pub fn ref_turn<'t, S: StrDrive, L: Ledger>(
     g: u32,
-    rest: usize,
     s: &Cut<'_, S>,
-    p: usize,
+    at: &mut At<'t>,
     trail: &Trail<'t>,
     steps: &mut Steps<L>,
-) -> Turn<'t>
-    ensures moves { Moves result trail.now.frames.items s.now trail.now.marks.items (after (node_paths (ref g) s.now p trail.now.marks.items) (run trail.now.frames.items rest s.now)) }
-    ensures cost { steps.new ≤ steps.old + spent result }
-    ensures below { (n : ℕ) → rest ≤ n → Below result n }
+) -> Turn
+    requires sound { Sound trail.now }
+    requires deep { at.old.rest ≤ length trail.now.frames.items }
+    ensures gives { Gives result at.new s.now trail.now steps.old steps.new (to_try s.now trail.now (after (node_paths (ref g) s.now at.old.place trail.now.marks.items) (run trail.now.frames.items at.old.rest s.now))) }
+    ensures stands { Stands result at.new trail.now }
 {
     match span_of(&trail.marks, g) {
-        None => Turn::Fail(0),
+        None => Turn::Fail,
         Some((start, stop)) => {
             let count = s.count();
             let stop = if stop < count { stop } else { count };
-            copy_turn(start, stop, rest, s, p, trail, steps)
+            copy_turn(start, stop, s, at, trail, steps)
         }
     }
 }
@@ -107,19 +108,22 @@ pub fn exists_turn<'t>(
     g: u32,
     y: &'t Tree,
     n: &'t Option<Tree>,
-    rest: usize,
-    p: usize,
-    marks: &Vec<Closed>,
-) -> Turn<'t>
-    ensures moves { (fs : Frames) (s : List ℕ) → Moves result fs s marks.now.items (after (node_paths (node_of (Node.Exists g y.now n.now)) s p marks.now.items) (run fs rest s)) }
-    ensures cost { spent result ≡ 0 }
-    ensures below { (n : ℕ) → rest ≤ n → Below result n }
+    at: &mut At<'t>,
+    trail: &Trail<'t>,
+) -> Turn
+    requires sound { Sound trail.now }
+    requires deep { at.old.rest ≤ length trail.now.frames.items }
+    ensures gives { (s : List ℕ) (k : ℕ) → Gives result at.new s trail.now k k (to_try s trail.now (after (node_paths (node_of (Node.Exists g y.now n.now)) s at.old.place trail.now.marks.items) (run trail.now.frames.items at.old.rest s))) }
+    ensures stands { Stands result at.new trail.now }
 {
-    if span_of(marks, g).is_some() {
-        return tree_turn(y, rest, p);
+    if span_of(&trail.marks, g).is_some() {
+        return tree_turn(y, at, trail);
     }
     match n {
-        Some(n) => tree_turn(n, rest, p),
-        None => Turn::Go(0, Step::Skip, rest, p),
+        Some(n) => tree_turn(n, at, trail),
+        None => {
+            at.part = Part::Skip;
+            Turn::Go
+        }
     }
 }

@@ -1,6 +1,7 @@
 //! Views of a subject, and the search in it for the spans of a tree.
 #![tactic(auto)]
 
+mod branches;
 mod copies;
 mod error;
 mod iterator;
@@ -13,6 +14,7 @@ mod repeats;
 mod request;
 mod search;
 mod sets;
+mod singles;
 mod state;
 mod trail;
 mod turns;

@@ -1,14 +1,15 @@
 //! The first allowed outcome of a tree at a place.
 
-ghost use Rattle.std.specs.Prelude.{◌≡◌, ◌+◌, ◌≤◌, ℕ, Bool, List, [], IfOk, OnOk, OnErr, MatchResult, option_map, length};
-ghost use Rattle.sre_match.specs.Machine.{run, onward, step_next, to_try, Sound, Gives, Below, Leads, Lands, spent, outcome_with};
+ghost use Rattle.std.specs.Prelude.{◌≡◌, ◌+◌, ◌≤◌, ℕ, Bool, List, [], IfOk, option_map, length};
+ghost use Rattle.sre_match.specs.Machine.{run, part_next, step_next, to_try, ahead_of, Sound, Gives, Stands, Leads, Lands, outcome_with};
 ghost use Rattle.sre_match.specs.Attempts.{after};
 ghost use Rattle.sre_match.specs.Matches.{is_allowed, first_allowed, reads};
 
+use crate::branches::trees_turn;
 use crate::nodes::nodes_turn;
-use crate::repeats::{optional_turn, rep_turn};
-use crate::trail::{Step, Trail, clear, frame_in, go_back};
-use crate::turns::{Turn, close_turn, leave, trees_turn};
+use crate::repeats::{once_turn, optional_turn, rep_turn};
+use crate::trail::{At, Part, Step, Trail, Turn, clear, drop_frame, frame_in, go_back};
+use crate::turns::{back_turn, close_turn, leave};
 use crate::units::Cut;
 use crate::view::StrDrive;
 use py_base::Steps;
@@ -17,14 +18,16 @@ use std::alloc::AllocError;
 use std::sync::ledger::Ledger;
 
 /// Where a turn leads.
-#[derive(Clone, Copy)]
-pub enum After<'t> {
-    /// There is more to do: the step, the number behind it, and the place.
-    More(Step<'t>, usize, usize),
-    /// The first allowed outcome ends at this place.
-    Found(usize),
+#[derive(Clone, Copy, Drop)]
+pub enum After {
+    /// There is more to do.
+    More,
+    /// The first allowed outcome ends here.
+    Found,
     /// There is none.
     Nothing,
+    /// There was no memory.
+    Never,
 }
 
 // Whether an end is allowed.
@@ -34,123 +37,118 @@ fn is_allowed(len: usize, start: usize, advance: bool, whole: bool, end: usize) 
     (!advance || end != start) && (!whole || end == len)
 }
 
-// What is next to do is done.
+// What a frame does is next.
 fn step_turn<'t, S: StrDrive, L: Ledger>(
     step: Step<'t>,
-    rest: usize,
     s: &Cut<'_, S>,
-    p: usize,
+    at: &mut At<'t>,
     trail: &mut Trail<'t>,
     steps: &mut Steps<L>,
-) -> Result<Turn<'t>, AllocError>
+) -> Turn
     requires sound { Sound trail.old }
-    requires deep { rest ≤ length trail.old.frames.items }
-    ensures gives { IfOk result (λ t. Gives t s.now trail.new (to_try s.now trail.old (after (step_next step.entry s.now p trail.old.marks.items) (run trail.old.frames.items rest s.now)))) }
-    ensures cost { MatchResult result (λ t. steps.new ≤ steps.old + spent t) (λ _. steps.new ≡ steps.old) }
-    ensures below { IfOk result (λ turn. Below turn (length trail.new.frames.items)) }
-    ensures sound { OnOk result (Sound trail.new) }
+    requires deep { at.old.rest ≤ length trail.old.frames.items }
+    ensures gives { Gives result at.new s.now trail.new steps.old steps.new (to_try s.now trail.old (after (step_next step.entry s.now at.old.place trail.old.marks.items) (run trail.old.frames.items at.old.rest s.now))) }
+    ensures stands { Stands result at.new trail.new }
 {
     match step {
-        Step::Skip => Ok(Turn::Go(0, Step::Skip, rest, p)),
-        Step::Nodes(nodes) => nodes_turn(nodes, rest, s, p, trail, steps),
-        Step::Trees(trees) => trees_turn(trees, rest, p, trail),
-        Step::Rep(greedy, k, body, j) => rep_turn(body, greedy, k, j, rest, p, trail),
-        Step::Again(greedy, body, j, q) => {
-            optional_turn(body, greedy, j, Some(q), rest, p, trail)
-        }
-        Step::Close(g, start) => close_turn(g, start, rest, p, trail),
+        Step::Then(nodes) => nodes_turn(nodes, s, at, trail, steps),
+        Step::Rep(greedy, k, body, j) => rep_turn(body, greedy, k, j, at, trail),
+        Step::Again(greedy, body, j, q) => optional_turn(body, greedy, j, Some(q), at, trail),
+        Step::Close(g, start) => close_turn(g, start, at, trail),
     }
 }
 
 // What is behind is next, or the end.
 fn rest_turn<'t, S: StrDrive, L: Ledger>(
-    rest: usize,
     s: &Cut<'_, S>,
-    p: usize,
+    at: &mut At<'t>,
     trail: &mut Trail<'t>,
     steps: &mut Steps<L>,
-) -> Result<Turn<'t>, AllocError>
+) -> Turn
     requires sound { Sound trail.old }
-    requires deep { rest ≤ length trail.old.frames.items }
-    ensures gives { IfOk result (λ t. Gives t s.now trail.new (to_try s.now trail.old (run trail.old.frames.items rest s.now p trail.old.marks.items))) }
-    ensures cost { MatchResult result (λ t. steps.new ≤ steps.old + spent t) (λ _. steps.new ≡ steps.old) }
-    ensures below { IfOk result (λ turn. Below turn (length trail.new.frames.items)) }
-    ensures sound { OnOk result (Sound trail.new) }
+    requires deep { at.old.rest ≤ length trail.old.frames.items }
+    ensures gives { Gives result at.new s.now trail.new steps.old steps.new (to_try s.now trail.old (run trail.old.frames.items at.old.rest s.now at.old.place trail.old.marks.items)) }
+    ensures stands { Stands result at.new trail.new }
 {
+    let rest = at.rest;
     if rest == 0 {
         if trail.levels == 0 {
-            return Ok(Turn::Done(p));
+            return Turn::Done;
         }
-        return Ok(leave(trail, p));
+        return leave(at, trail);
     }
     let frame = frame_in(&trail.frames, rest);
-    step_turn(frame.step, frame.rest, s, p, trail, steps)
+    drop_frame(trail, rest);
+    at.rest = frame.rest;
+    step_turn(frame.step, s, at, trail, steps)
 }
 
 // One turn.
 fn take_turn<'t, S: StrDrive, L: Ledger>(
-    step: Step<'t>,
-    rest: usize,
     s: &Cut<'_, S>,
-    p: usize,
+    at: &mut At<'t>,
     trail: &mut Trail<'t>,
     steps: &mut Steps<L>,
-) -> Result<Turn<'t>, AllocError>
+) -> Turn
     requires sound { Sound trail.old }
-    requires deep { rest ≤ length trail.old.frames.items }
-    ensures gives { IfOk result (λ t. Gives t s.now trail.new (to_try s.now trail.old (onward trail.old.frames.items step.entry rest s.now p trail.old.marks.items))) }
-    ensures cost { MatchResult result (λ t. steps.new ≤ steps.old + spent t) (λ _. steps.new ≡ steps.old) }
-    ensures below { IfOk result (λ turn. Below turn (length trail.new.frames.items)) }
-    ensures sound { OnOk result (Sound trail.new) }
+    requires deep { at.old.rest ≤ length trail.old.frames.items }
+    ensures gives { Gives result at.new s.now trail.new steps.old steps.new (ahead_of at.old s.now trail.old) }
+    ensures stands { Stands result at.new trail.new }
 {
-    match step {
-        Step::Skip => rest_turn(rest, s, p, trail, steps),
-        _ => step_turn(step, rest, s, p, trail, steps),
+    match at.part {
+        Part::Skip => rest_turn(s, at, trail, steps),
+        Part::Nodes(nodes) => {
+            if nodes.is_empty() {
+                rest_turn(s, at, trail, steps)
+            } else {
+                nodes_turn(nodes, s, at, trail, steps)
+            }
+        }
+        Part::Trees(trees) => trees_turn(trees, s, at, trail, steps),
+        Part::Back(count) => back_turn(count, at, trail),
+        Part::Once(body, j) => once_turn(body, j, s, at, trail, steps),
     }
 }
 
 // Goes on with the newest choice.
-fn retry<'t>(trail: &mut Trail<'t>) -> After<'t>
+fn retry<'t>(at: &mut At<'t>, trail: &mut Trail<'t>) -> After
     requires { Sound trail.old }
-    ensures leads { (ok : ℕ → Bool) (s : List ℕ) (n : ℕ) → Leads result ok s trail.new n n (to_try s trail.old []) }
-    ensures below { Lands result (length trail.new.frames.items) }
-    ensures sound { Sound trail.new }
+    ensures leads { (ok : ℕ → Bool) (s : List ℕ) (n : ℕ) → Leads result at.new ok s trail.new n n (to_try s trail.old []) }
+    ensures lands { Lands result at.new trail.new }
 {
-    match go_back(trail) {
-        None => After::Nothing,
-        Some((step, rest, p)) => After::More(step, rest, p),
+    if go_back(at, trail) {
+        After::More
+    } else {
+        After::Nothing
     }
 }
 
 // A turn, and where it leads.
 fn next_turn<'t, S: StrDrive, L: Ledger>(
-    step: Step<'t>,
-    rest: usize,
     s: &Cut<'_, S>,
-    p: usize,
+    at: &mut At<'t>,
     trail: &mut Trail<'t>,
     start: usize,
     advance: bool,
     whole: bool,
     steps: &mut Steps<L>,
-) -> Result<After<'t>, AllocError>
+) -> After
     requires sound { Sound trail.old }
-    requires deep { rest ≤ length trail.old.frames.items }
-    ensures leads { IfOk result (λ a. Leads a (is_allowed s.now start advance whole) s.now trail.new steps.old steps.new (to_try s.now trail.old (onward trail.old.frames.items step.entry rest s.now p trail.old.marks.items))) }
-    ensures cost { OnErr result (steps.new ≡ steps.old) }
-    ensures below { IfOk result (λ a. Lands a (length trail.new.frames.items)) }
-    ensures sound { OnOk result (Sound trail.new) }
+    requires deep { at.old.rest ≤ length trail.old.frames.items }
+    ensures leads { Leads result at.new (is_allowed s.now start advance whole) s.now trail.new steps.old steps.new (ahead_of at.old s.now trail.old) }
+    ensures lands { Lands result at.new trail.new }
 {
-    match take_turn(step, rest, s, p, trail, steps)? {
-        Turn::Go(_, next, behind, place) => Ok(After::More(next, behind, place)),
-        Turn::Fail(_) => Ok(retry(trail)),
-        Turn::Done(end) => {
-            if is_allowed(s.count(), start, advance, whole, end) {
-                Ok(After::Found(end))
+    match take_turn(s, at, trail, steps) {
+        Turn::Go => After::More,
+        Turn::Fail => retry(at, trail),
+        Turn::Done => {
+            if is_allowed(s.count(), start, advance, whole, at.place) {
+                After::Found
             } else {
-                Ok(retry(trail))
+                retry(at, trail)
             }
         }
+        Turn::Full => After::Never,
     }
 }
 
@@ -171,18 +169,17 @@ pub fn find_at<'t, S: StrDrive, L: Ledger>(
         return Ok(None);
     }
     clear(trail);
-    let mut step = Step::Nodes(tree.nodes());
-    let mut rest = 0;
-    let mut p = start;
+    let mut at = At {
+        part: Part::Nodes(tree.nodes()),
+        rest: 0,
+        place: start,
+    };
     for _turn in 0..u64::MAX {
-        match next_turn(step, rest, s, p, trail, start, advance, whole, steps)? {
-            After::More(next, behind, place) => {
-                step = next;
-                rest = behind;
-                p = place;
-            }
-            After::Found(stop) => return Ok(Some(stop)),
+        match next_turn(s, &mut at, trail, start, advance, whole, steps) {
+            After::More => {}
+            After::Found => return Ok(Some(at.place)),
             After::Nothing => return Ok(None),
+            After::Never => return Err(AllocError),
         }
     }
     Err(AllocError)

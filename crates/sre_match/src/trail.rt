@@ -1,22 +1,33 @@
 //! What is left to do and what is still to be tried.
 
-ghost use Rattle.std.specs.Prelude.{◌≡◌, ℕ, List, [], ◌∷◌, ◌++◌, ◌<◌, ◌≤◌, ◌^◌, take, IfOk, OnOk, IfSome, length};
-ghost use Rattle.sre_match.specs.Machine.{run, onward, Down, wrap, level_of, to_try, Sound, Rising, Stacked, Pops, Returns};
+ghost use Rattle.std.specs.Prelude.{◌≡◌, ℕ, List, [], ◌∷◌, ◌++◌, ◌<◌, ◌≤◌, ◌^◌, take, true, IfOk, OnOk, length};
+ghost use Rattle.sre_match.specs.Machine.{run, onward, part_next, step_next, Down, wrap, level_of, to_try, Sound, Rising, Stacked, Pops, Returns};
 ghost use Rattle.sre_match.specs.Attempts.{Attempt};
 
 use crate::marks::Closed;
 use sre_code::{Node, Tree};
 use std::alloc::{AllocError, Global};
 
-/// A thing to do.
+/// What is next, or kept for later.
 #[derive(Clone, Copy)]
-pub enum Step<'t> {
+pub enum Part<'t> {
     /// Nothing before what is behind.
     Skip,
     /// Nodes, one after another.
     Nodes(&'t [Node]),
     /// Alternatives.
     Trees(&'t [Tree]),
+    /// Nothing, here and then at so many places before, the nearest ones first.
+    Back(usize),
+    /// One more iteration of a lazy repeat's body, and how many may follow it.
+    Once(&'t Tree, usize),
+}
+
+/// What a frame does.
+#[derive(Clone, Copy)]
+pub enum Step<'t> {
+    /// The rest of some nodes.
+    Then(&'t [Node]),
     /// A repeat: whether it is greedy, how many mandatory iterations are left, its body, and how many
     /// optional ones may follow.
     Rep(bool, u32, &'t Tree, usize),
@@ -33,6 +44,27 @@ pub struct Frame<'t> {
     pub rest: usize,
 }
 
+/// Where the matcher stands: what is next, the number of the frame behind it, and the place.
+#[derive(Clone, Copy)]
+pub struct At<'t> {
+    pub part: Part<'t>,
+    pub rest: usize,
+    pub place: usize,
+}
+
+/// What came of a turn.
+#[derive(Clone, Copy, Drop)]
+pub enum Turn {
+    /// There is more to do.
+    Go,
+    /// A failure.
+    Fail,
+    /// The whole tree matches up to here.
+    Done,
+    /// There was no memory.
+    Full,
+}
+
 /// What a choice stands for: more to try, or a part that was entered, of which the first match alone counts.
 #[derive(Clone, Copy, Drop)]
 pub enum Kind {
@@ -46,15 +78,16 @@ pub enum Kind {
     Not,
 }
 
-/// What is still to be tried: from where, and with how many marks and frames.
+/// What is still to be tried: from where, and with how many marks and frames. A subject's every place may
+/// have one, so their numbers are short.
 #[derive(Clone, Copy)]
 pub struct Choice<'t> {
-    pub kind: Kind,
-    pub marks: usize,
-    pub step: Step<'t>,
+    pub part: Part<'t>,
     pub place: usize,
-    pub rest: usize,
-    pub frames: usize,
+    pub rest: u32,
+    pub frames: u32,
+    pub marks: u32,
+    pub kind: Kind,
 }
 
 /// The groups that were closed on the way here, what is left to do, and what is still to be tried.
@@ -149,8 +182,8 @@ pub fn frame_in<'t>(frames: &[Frame<'t>], rest: usize) -> Frame<'t>
     requires some { 0 < rest }
     requires deep { rest ≤ length frames.now }
     requires down { Down 0 frames.now }
-    ensures run { (s : List ℕ) → run frames.now rest s ≡ onward frames.now result.step result.rest s }
-    ensures below { result.rest ≤ length frames.now }
+    ensures run { (s : List ℕ) → run frames.now rest s ≡ onward frames.now (step_next result.step s) result.rest s }
+    ensures below { result.rest < rest }
 {
     frames[rest - 1]
 }
@@ -161,7 +194,7 @@ pub fn put<'t>(trail: &mut Trail<'t>, step: Step<'t>, rest: usize) -> Result<usi
     requires deep { rest ≤ length trail.old.frames.items }
     ensures marks { OnOk result (trail.new.marks.items ≡ trail.old.marks.items) }
     ensures tried { OnOk result ((s : List ℕ) (xs : List Attempt) → to_try s trail.new xs ≡ to_try s trail.old xs) }
-    ensures put { IfOk result (λ i. (s : List ℕ) → run trail.new.frames.items i s ≡ onward trail.old.frames.items step.entry rest s) }
+    ensures put { IfOk result (λ i. (s : List ℕ) → run trail.new.frames.items i s ≡ onward trail.old.frames.items (step_next step.entry s) rest s) }
     ensures stays { OnOk result ((s : List ℕ) → run trail.new.frames.items rest s ≡ run trail.old.frames.items rest s) }
     ensures below { IfOk result (λ i. i ≤ length trail.new.frames.items) }
     ensures deep { OnOk result (rest ≤ length trail.new.frames.items) }
@@ -172,11 +205,21 @@ pub fn put<'t>(trail: &mut Trail<'t>, step: Step<'t>, rest: usize) -> Result<usi
     Ok(count + 1)
 }
 
+// A number in four bytes. A larger one would count more than memory holds.
+fn short(n: usize) -> Result<u32, AllocError>
+    ensures { IfOk result (λ k. k ≡ n) }
+{
+    match u32::try_from(n) {
+        Ok(k) => Ok(k),
+        Err(_) => Err(AllocError),
+    }
+}
+
 /// Keeps a choice for later.
 pub fn keep<'t>(
     trail: &mut Trail<'t>,
     kind: Kind,
-    step: Step<'t>,
+    part: Part<'t>,
     rest: usize,
     place: usize,
 ) -> Result<(), AllocError>
@@ -184,20 +227,21 @@ pub fn keep<'t>(
     requires deep { rest ≤ length trail.old.frames.items }
     ensures marks { OnOk result (trail.new.marks.items ≡ trail.old.marks.items) }
     ensures frames { OnOk result (trail.new.frames.items ≡ trail.old.frames.items) }
-    ensures tried { OnOk result ((s : List ℕ) (xs : List Attempt) → to_try s trail.new xs ≡ to_try s trail.old (wrap kind (onward trail.old.frames.items step.entry rest s) place trail.old.marks.items xs)) }
+    ensures tried { OnOk result ((s : List ℕ) (xs : List Attempt) → to_try s trail.new xs ≡ to_try s trail.old (wrap kind (onward trail.old.frames.items (part_next part.entry s) rest s) place trail.old.marks.items xs)) }
     ensures sound { OnOk result (Sound trail.new) }
 {
-    let marks = mark_count(&trail.marks);
-    let frames = frame_count(&trail.frames);
+    let marks = short(mark_count(&trail.marks))?;
+    let frames = short(frame_count(&trail.frames))?;
+    let rest = short(rest)?;
     let _count = choice_count(&trail.choices);
     let levels = trail.levels + level(kind);
     let choice = Choice {
-        kind,
-        marks,
-        step,
+        part,
         place,
         rest,
         frames,
+        marks,
+        kind,
     };
     push_choice(&mut trail.choices, choice)?;
     trail.levels = levels;
@@ -247,25 +291,66 @@ fn rewind<'t>(trail: &mut Trail<'t>, marks: usize, frames: usize, rest: usize)
     trail.frames.truncate(frames);
 }
 
-/// Goes back to the newest choice that has more to try, and to the marks of then.
-pub fn go_back<'t>(trail: &mut Trail<'t>) -> Option<(Step<'t>, usize, usize)>
+// How many frames the newest choice goes back to.
+fn frames_kept<'t>(choices: &[Choice<'t>]) -> usize
+    ensures { (high n : ℕ) → Stacked 0 choices.now high → result ≤ n → Stacked 0 choices.now n }
+{
+    match choices {
+        [] => 0,
+        [.., choice] => choice.frames as usize,
+    }
+}
+
+/// Takes the newest frame away where it has this number, and no choice goes back to it.
+pub fn drop_frame<'t>(trail: &mut Trail<'t>, rest: usize)
+    requires sound { Sound trail.old }
+    requires some { 0 < rest }
+    requires deep { rest ≤ length trail.old.frames.items }
+    ensures marks { trail.new.marks.items ≡ trail.old.marks.items }
+    ensures tried { (s : List ℕ) (xs : List Attempt) → to_try s trail.new xs ≡ to_try s trail.old xs }
+    ensures stays { (i : ℕ) (s : List ℕ) → i < rest → run trail.new.frames.items i s ≡ run trail.old.frames.items i s }
+    ensures deep { (i : ℕ) → i < rest → i ≤ length trail.new.frames.items }
+    ensures sound { Sound trail.new }
+{
+    if rest == frame_count(&trail.frames) && frames_kept(&trail.choices) < rest {
+        trail.frames.truncate(rest - 1);
+    }
+}
+
+// Where a choice goes on.
+fn stand<'t>(choice: Choice<'t>) -> At<'t>
+    ensures { result ≡ record { part = choice.entry.part; rest = choice.entry.rest; place = choice.entry.place } }
+{
+    At {
+        part: choice.part,
+        rest: choice.rest as usize,
+        place: choice.place,
+    }
+}
+
+/// Goes back to the newest choice that has more to try, and to the marks of then. False says that none is left.
+pub fn go_back<'t>(at: &mut At<'t>, trail: &mut Trail<'t>) -> bool
     requires { Sound trail.old }
-    ensures back { (s : List ℕ) → Returns result s trail.new (to_try s trail.old []) }
-    ensures below { IfSome result (λ x. x.1 ≤ length trail.new.frames.items) }
+    ensures back { (s : List ℕ) → Returns result at.new s trail.new (to_try s trail.old []) }
+    ensures below { result ≡ true → at.new.rest ≤ length trail.new.frames.items }
     ensures sound { Sound trail.new }
 {
     while let Some(choice) = pop(trail) {
         match choice.kind {
             Kind::Cut | Kind::Ahead => {}
             Kind::Try => {
-                rewind(trail, choice.marks, choice.frames, choice.rest);
-                return Some((choice.step, choice.rest, choice.place));
+                let rest = choice.rest as usize;
+                rewind(trail, choice.marks as usize, choice.frames as usize, rest);
+                *at = stand(choice);
+                return true;
             }
             Kind::Not => {
-                rewind(trail, choice.marks, choice.frames, choice.rest);
-                return Some((choice.step, choice.rest, choice.place));
+                let rest = choice.rest as usize;
+                rewind(trail, choice.marks as usize, choice.frames as usize, rest);
+                *at = stand(choice);
+                return true;
             }
         }
     }
-    None
+    false
 }

@@ -1,126 +1,103 @@
 //! One turn of the matcher, where no unit is read.
 
-ghost use Rattle.std.specs.Prelude.{◌≡◌, ◌≢◌, ℕ, List, [], ◌∷◌, ◌+◌, ◌<◌, ◌≤◌, IfOk, OnOk, length};
-ghost use Rattle.sre_match.specs.Machine.{run, Frames, step_next, wrap, to_try, Sound, Gives, Moves, Below, spent};
-ghost use Rattle.sre_match.specs.Attempts.{stay, after, Marks, closed_from, cut};
-ghost use Rattle.sre_match.specs.Paths.{paths, node_paths, attempt, all_paths};
+ghost use Rattle.std.specs.Prelude.{◌≡◌, ℕ, List, ◌<◌, ◌≤◌, length};
+ghost use Rattle.sre_match.specs.Machine.{run, part_next, step_next, wrap, to_try, Sound, Gives, Stands};
+ghost use Rattle.sre_match.specs.Attempts.{stay, after, closed_from, cut};
+ghost use Rattle.sre_match.specs.Paths.{paths, node_paths};
 ghost use Rattle.sre_code.specs.PlainTree.{look};
-ghost use Rattle.sre_code.specs.TreeView.{trees_of};
 
 use crate::marks::Closed;
-use crate::trail::{Kind, Step, Trail, close, keep, pop, put};
+use crate::trail::{At, Kind, Part, Step, Trail, Turn, close, keep, pop, put};
 use sre_code::Tree;
-use std::alloc::AllocError;
 
-/// What came of a turn: more to do, or a failure, each at a cost, or a match.
-#[derive(Clone, Copy)]
-pub enum Turn<'t> {
-    /// The cost, and what to do next: the step, the number behind it, and the place.
-    Go(u64, Step<'t>, usize, usize),
-    /// A failure, and its cost.
-    Fail(u64),
-    /// The whole tree matches up to this place.
-    Done(usize),
-}
-
-/// Leaves the part that was entered last, which matches up to a place.
-pub fn leave<'t>(trail: &mut Trail<'t>, p: usize) -> Turn<'t>
+/// Leaves the part that was entered last, which matches up to here.
+pub fn leave<'t>(at: &mut At<'t>, trail: &mut Trail<'t>) -> Turn
     requires sound { Sound trail.old }
     requires inside { 0 < trail.old.levels }
-    ensures gives { (s : List ℕ) → Gives result s trail.new (to_try s trail.old (stay p trail.old.marks.items)) }
-    ensures cost { spent result ≡ 0 }
-    ensures below { Below result (length trail.new.frames.items) }
-    ensures sound { Sound trail.new }
+    ensures gives { (s : List ℕ) (n : ℕ) → Gives result at.new s trail.new n n (to_try s trail.old (stay at.old.place trail.old.marks.items)) }
+    ensures stands { Stands result at.new trail.new }
 {
     while let Some(choice) = pop(trail) {
         match choice.kind {
             Kind::Try => {}
-            Kind::Cut => return Turn::Go(0, choice.step, choice.rest, p),
-            Kind::Ahead => return Turn::Go(0, choice.step, choice.rest, choice.place),
-            Kind::Not => return Turn::Fail(0),
+            Kind::Cut => {
+                at.part = choice.part;
+                at.rest = choice.rest as usize;
+                return Turn::Go;
+            }
+            Kind::Ahead => {
+                at.part = choice.part;
+                at.rest = choice.rest as usize;
+                at.place = choice.place;
+                return Turn::Go;
+            }
+            Kind::Not => return Turn::Fail,
         }
     }
-    Turn::Done(p)
+    Turn::Done
 }
 
-/// A part is entered, of which the first match alone counts.
+/// A part is entered at a place, of which the first match alone counts.
 pub fn enter<'t>(
-    trail: &mut Trail<'t>,
     kind: Kind,
-    part: Step<'t>,
-    rest: usize,
-    place: usize,
+    part: Part<'t>,
     start: usize,
-) -> Result<Turn<'t>, AllocError>
-    requires sound { Sound trail.old }
-    requires deep { rest ≤ length trail.old.frames.items }
-    ensures gives { IfOk result (λ turn. (s : List ℕ) → Gives turn s trail.new (to_try s trail.old (wrap kind (run trail.old.frames.items rest s) place trail.old.marks.items (step_next part.entry s start trail.old.marks.items)))) }
-    ensures cost { IfOk result (λ turn. spent turn ≡ 0) }
-    ensures below { IfOk result (λ turn. Below turn (length trail.new.frames.items)) }
-    ensures sound { OnOk result (Sound trail.new) }
-{
-    keep(trail, kind, Step::Skip, rest, place)?;
-    Ok(Turn::Go(0, part, 0, start))
-}
-
-/// A unit is read.
-#[tactic(auto, using(crate::proofs::FrameLaws::unit_go))]
-pub fn unit_turn<'t>(is_met: bool, rest: usize, p: usize) -> Turn<'t>
-    requires { p < 18446744073709551615 }
-    ensures moves { (fs : Frames) (s : List ℕ) (m : Marks) → Moves result fs s m (after (attempt is_met 1 (p + 1) m) (run fs rest s)) }
-    ensures cost { spent result ≡ 1 }
-    ensures below { (n : ℕ) → rest ≤ n → Below result n }
-{
-    if is_met {
-        Turn::Go(1, Step::Skip, rest, p + 1)
-    } else {
-        Turn::Fail(1)
-    }
-}
-
-/// A group is next.
-pub fn group_turn<'t>(
-    g: u32,
-    b: &'t Tree,
-    rest: usize,
-    p: usize,
+    at: &mut At<'t>,
     trail: &mut Trail<'t>,
-) -> Result<Turn<'t>, AllocError>
+) -> Turn
     requires sound { Sound trail.old }
-    requires deep { rest ≤ length trail.old.frames.items }
-    ensures gives { IfOk result (λ t. (s : List ℕ) → Gives t s trail.new (to_try s trail.old (after (closed_from g p (paths b.now s p trail.old.marks.items)) (run trail.old.frames.items rest s)))) }
-    ensures cost { IfOk result (λ turn. spent turn ≡ 0) }
-    ensures below { IfOk result (λ turn. Below turn (length trail.new.frames.items)) }
-    ensures sound { OnOk result (Sound trail.new) }
+    requires deep { at.old.rest ≤ length trail.old.frames.items }
+    ensures gives { (s : List ℕ) (n : ℕ) → Gives result at.new s trail.new n n (to_try s trail.old (wrap kind (run trail.old.frames.items at.old.rest s) at.old.place trail.old.marks.items (part_next part.entry s start trail.old.marks.items))) }
+    ensures stands { Stands result at.new trail.new }
 {
-    let close = put(trail, Step::Close(g, p), rest)?;
-    Ok(Turn::Go(0, Step::Nodes(b.nodes()), close, p))
+    let Ok(()) = keep(trail, kind, Part::Skip, at.rest, at.place) else {
+        return Turn::Full;
+    };
+    *at = At {
+        part,
+        rest: 0,
+        place: start,
+    };
+    Turn::Go
 }
 
 /// A tree is next.
-pub fn tree_turn<'t>(b: &'t Tree, rest: usize, p: usize) -> Turn<'t>
-    ensures moves { (fs : Frames) (s : List ℕ) (m : Marks) → Moves result fs s m (after (paths b.now s p m) (run fs rest s)) }
-    ensures cost { spent result ≡ 0 }
-    ensures below { (n : ℕ) → rest ≤ n → Below result n }
+pub fn tree_turn<'t>(b: &'t Tree, at: &mut At<'t>, trail: &Trail<'t>) -> Turn
+    requires sound { Sound trail.now }
+    requires deep { at.old.rest ≤ length trail.now.frames.items }
+    ensures gives { (s : List ℕ) (n : ℕ) → Gives result at.new s trail.now n n (to_try s trail.now (after (paths b.now s at.old.place trail.now.marks.items) (run trail.now.frames.items at.old.rest s))) }
+    ensures stands { Stands result at.new trail.now }
 {
-    Turn::Go(0, Step::Nodes(b.nodes()), rest, p)
+    at.part = Part::Nodes(b.nodes());
+    Turn::Go
+}
+
+/// A group is next.
+pub fn group_turn<'t>(g: u32, b: &'t Tree, at: &mut At<'t>, trail: &mut Trail<'t>) -> Turn
+    requires sound { Sound trail.old }
+    requires deep { at.old.rest ≤ length trail.old.frames.items }
+    ensures gives { (s : List ℕ) (n : ℕ) → Gives result at.new s trail.new n n (to_try s trail.old (after (closed_from g at.old.place (paths b.now s at.old.place trail.old.marks.items)) (run trail.old.frames.items at.old.rest s))) }
+    ensures stands { Stands result at.new trail.new }
+{
+    match put(trail, Step::Close(g, at.place), at.rest) {
+        Err(_) => Turn::Full,
+        Ok(close) => {
+            at.part = Part::Nodes(b.nodes());
+            at.rest = close;
+            Turn::Go
+        }
+    }
 }
 
 /// An atomic part is next.
-pub fn atomic_turn<'t>(
-    b: &'t Tree,
-    rest: usize,
-    p: usize,
-    trail: &mut Trail<'t>,
-) -> Result<Turn<'t>, AllocError>
+pub fn atomic_turn<'t>(b: &'t Tree, at: &mut At<'t>, trail: &mut Trail<'t>) -> Turn
     requires sound { Sound trail.old }
-    requires deep { rest ≤ length trail.old.frames.items }
-    ensures gives { IfOk result (λ t. (s : List ℕ) → Gives t s trail.new (to_try s trail.old (after (cut (paths b.now s p trail.old.marks.items)) (run trail.old.frames.items rest s)))) }
-    ensures cost { IfOk result (λ turn. spent turn ≡ 0) }
-    ensures below { IfOk result (λ turn. Below turn (length trail.new.frames.items)) }
-    ensures sound { OnOk result (Sound trail.new) }
+    requires deep { at.old.rest ≤ length trail.old.frames.items }
+    ensures gives { (s : List ℕ) (n : ℕ) → Gives result at.new s trail.new n n (to_try s trail.old (after (cut (paths b.now s at.old.place trail.old.marks.items)) (run trail.old.frames.items at.old.rest s))) }
+    ensures stands { Stands result at.new trail.new }
 {
-    enter(trail, Kind::Cut, Step::Nodes(b.nodes()), rest, p, p)
+    let place = at.place;
+    enter(Kind::Cut, Part::Nodes(b.nodes()), place, at, trail)
 }
 
 /// A look is next.
@@ -128,113 +105,62 @@ pub fn look_turn<'t>(
     positive: bool,
     back: u32,
     b: &'t Tree,
-    rest: usize,
-    p: usize,
+    at: &mut At<'t>,
     trail: &mut Trail<'t>,
-) -> Result<Turn<'t>, AllocError>
+) -> Turn
     requires sound { Sound trail.old }
-    requires deep { rest ≤ length trail.old.frames.items }
-    ensures gives { IfOk result (λ t. (s : List ℕ) → Gives t s trail.new (to_try s trail.old (after (node_paths (look positive back b.now) s p trail.old.marks.items) (run trail.old.frames.items rest s)))) }
-    ensures cost { IfOk result (λ turn. spent turn ≡ 0) }
-    ensures below { IfOk result (λ turn. Below turn (length trail.new.frames.items)) }
-    ensures sound { OnOk result (Sound trail.new) }
+    requires deep { at.old.rest ≤ length trail.old.frames.items }
+    ensures gives { (s : List ℕ) (n : ℕ) → Gives result at.new s trail.new n n (to_try s trail.old (after (node_paths (look positive back b.now) s at.old.place trail.old.marks.items) (run trail.old.frames.items at.old.rest s))) }
+    ensures stands { Stands result at.new trail.new }
 {
     let back = back as usize;
+    let place = at.place;
     if positive {
-        if p < back {
-            return Ok(Turn::Fail(0));
+        if place < back {
+            return Turn::Fail;
         }
-        enter(
-            trail,
-            Kind::Ahead,
-            Step::Nodes(b.nodes()),
-            rest,
-            p,
-            p - back,
-        )
+        enter(Kind::Ahead, Part::Nodes(b.nodes()), place - back, at, trail)
     } else {
-        if p < back {
-            return Ok(Turn::Go(0, Step::Skip, rest, p));
+        if place < back {
+            at.part = Part::Skip;
+            return Turn::Go;
         }
-        enter(trail, Kind::Not, Step::Nodes(b.nodes()), rest, p, p - back)
+        enter(Kind::Not, Part::Nodes(b.nodes()), place - back, at, trail)
     }
 }
 
-/// Alternatives are next.
-pub fn trees_turn<'t>(
-    trees: &'t [Tree],
-    rest: usize,
-    p: usize,
-    trail: &mut Trail<'t>,
-) -> Result<Turn<'t>, AllocError>
+/// A group that began at a place ends here.
+pub fn close_turn<'t>(g: u32, start: usize, at: &mut At<'t>, trail: &mut Trail<'t>) -> Turn
     requires sound { Sound trail.old }
-    requires deep { rest ≤ length trail.old.frames.items }
-    ensures gives { IfOk result (λ turn. (s : List ℕ) → Gives turn s trail.new (to_try s trail.old (after (all_paths (trees_of trees.now) s p trail.old.marks.items) (run trail.old.frames.items rest s)))) }
-    ensures cost { IfOk result (λ turn. spent turn ≡ 0) }
-    ensures below { IfOk result (λ turn. Below turn (length trail.new.frames.items)) }
-    ensures sound { OnOk result (Sound trail.new) }
-{
-    match trees {
-        [] => Ok(Turn::Go(0, Step::Skip, rest, p)),
-        [t, more @ ..] => alternative_turn(t, more, rest, p, trail),
-    }
-}
-
-// Alternatives for later, of which a last one is its nodes.
-#[tactic(auto, using(crate::proofs::TurnLaws::alone))]
-fn later<'t>(more: &'t [Tree]) -> Step<'t>
-    requires { more.now ≢ [] }
-    ensures { (s : List ℕ) (p : ℕ) (m : Marks) → step_next result s p m ≡ all_paths (trees_of more.entry.now) s p m }
-{
-    match more {
-        [t] => Step::Nodes(t.nodes()),
-        _ => Step::Trees(more),
-    }
-}
-
-// An alternative is next, with more of them for later.
-fn alternative_turn<'t>(
-    t: &'t Tree,
-    more: &'t [Tree],
-    rest: usize,
-    p: usize,
-    trail: &mut Trail<'t>,
-) -> Result<Turn<'t>, AllocError>
-    requires sound { Sound trail.old }
-    requires deep { rest ≤ length trail.old.frames.items }
-    ensures gives { IfOk result (λ turn. (s : List ℕ) → Gives turn s trail.new (to_try s trail.old (after (all_paths (trees_of (t.now ∷ more.now)) s p trail.old.marks.items) (run trail.old.frames.items rest s)))) }
-    ensures cost { IfOk result (λ turn. spent turn ≡ 0) }
-    ensures below { IfOk result (λ turn. Below turn (length trail.new.frames.items)) }
-    ensures sound { OnOk result (Sound trail.new) }
-{
-    let body = Step::Nodes(t.nodes());
-    if more.is_empty() {
-        return Ok(Turn::Go(0, body, rest, p));
-    }
-    keep(trail, Kind::Try, later(more), rest, p)?;
-    Ok(Turn::Go(0, body, rest, p))
-}
-
-/// A group ends here.
-pub fn close_turn<'t>(
-    g: u32,
-    start: usize,
-    rest: usize,
-    p: usize,
-    trail: &mut Trail<'t>,
-) -> Result<Turn<'t>, AllocError>
-    requires sound { Sound trail.old }
-    requires deep { rest ≤ length trail.old.frames.items }
-    ensures gives { IfOk result (λ turn. (s : List ℕ) → Gives turn s trail.new (to_try s trail.old (after (step_next (Step.Close g start) s p trail.old.marks.items) (run trail.old.frames.items rest s)))) }
-    ensures cost { IfOk result (λ turn. spent turn ≡ 0) }
-    ensures below { IfOk result (λ turn. Below turn (length trail.new.frames.items)) }
-    ensures sound { OnOk result (Sound trail.new) }
+    requires deep { at.old.rest ≤ length trail.old.frames.items }
+    ensures gives { (s : List ℕ) (n : ℕ) → Gives result at.new s trail.new n n (to_try s trail.old (after (step_next (Step.Close g start) s at.old.place trail.old.marks.items) (run trail.old.frames.items at.old.rest s))) }
+    ensures stands { Stands result at.new trail.new }
 {
     let closed = Closed {
         group: g as usize,
         start,
-        stop: p,
+        stop: at.place,
     };
-    close(trail, closed)?;
-    Ok(Turn::Go(0, Step::Skip, rest, p))
+    let Ok(()) = close(trail, closed) else {
+        return Turn::Full;
+    };
+    at.part = Part::Skip;
+    Turn::Go
+}
+
+/// Nothing is next but what is behind: it passes here, and then at so many places before.
+pub fn back_turn<'t>(count: usize, at: &mut At<'t>, trail: &mut Trail<'t>) -> Turn
+    requires sound { Sound trail.old }
+    requires deep { at.old.rest ≤ length trail.old.frames.items }
+    ensures gives { (s : List ℕ) (n : ℕ) → Gives result at.new s trail.new n n (to_try s trail.old (after (part_next (Part.Back count) s at.old.place trail.old.marks.items) (run trail.old.frames.items at.old.rest s))) }
+    ensures stands { Stands result at.new trail.new }
+{
+    if count > 0 {
+        let before = at.place.saturating_sub(1);
+        let Ok(()) = keep(trail, Kind::Try, Part::Back(count - 1), at.rest, before) else {
+            return Turn::Full;
+        };
+    }
+    at.part = Part::Skip;
+    Turn::Go
 }

@@ -1,12 +1,12 @@
 use Rattle.std.proofs.Common.{[], ◌≤◌, length}
 use Rattle.sre_match.specs.Matches.{is_allowed}
 use Rattle.sre_match.specs.Paths.{paths}
-use Rattle.sre_match.specs.Machine.{onward, to_try, Sound, Less}
+use Rattle.sre_match.specs.Machine.{ahead_of, Sound, Less}
 use Rattle.sre_match.proofs.machine.find_at.Given as goal
 
 abbrev pub invariant-loop-turn : goal.invariant-loop-turn
 invariant-loop-turn g l = record {
-  less : Less (is_allowed l.s l.start l.advance l.whole) l.fn.steps l.steps (paths l.fn.tree l.s l.start []) (to_try l.s l.trail (onward l.trail.frames.items l.step l.rest l.s l.p l.trail.marks.items));
+  less : Less (is_allowed l.s l.start l.advance l.whole) l.fn.steps l.steps (paths l.fn.tree l.s l.start []) (ahead_of l.at l.s l.trail);
   sound : Sound l.trail;
-  deep : l.rest ≤ length l.trail.frames.items;
+  deep : l.at.rest ≤ length l.trail.frames.items;
 }

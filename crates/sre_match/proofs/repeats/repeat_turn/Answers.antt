@@ -1,25 +1,34 @@
-use Rattle.std.proofs.Common.{sym, ◌∙◌, ap, true}
-use Rattle.sre_code.specs.PlainTree.{repeat}
-use Rattle.sre_match.specs.Machine.{run}
-use Rattle.sre_match.specs.Attempts.{after, cut}
-use Rattle.sre_match.specs.Paths.{paths, node_paths}
-use Rattle.sre_match.specs.Repeats.{repeat_paths, room_in}
-use Rattle.sre_match.proofs.TurnLaws.{if_ok, gives_from}
+use Rattle.std.proofs.Common.{sym, ◌∙◌, ap}
+use Rattle.sre_match.specs.Machine.{run, to_try, kind_paths}
+use Rattle.sre_match.specs.Attempts.{after, Next}
+use Rattle.sre_match.specs.Paths.{paths}
+use Rattle.sre_match.specs.Repeats.{room_in}
+use Rattle.sre_match.proofs.LessLaws.{gives_is}
+use Rattle.sre_match.proofs.RepeatLaws.{repeat_kind}
 use Rattle.sre_match.proofs.repeats.repeat_turn.Goals as goal
 
-pub returns-in-Possessive-clause-gives : goal.returns-in-Possessive-clause-gives
-returns-in-Possessive-clause-gives c =
-    let p = c.args.p in
-    let m = c.args.trail.now.marks.items in
+pub returns-in-Some-clause-gives : goal.returns-in-Some-clause-gives
+returns-in-Some-clause-gives g c one_wide =
+    let s = c.args.s.now in
+    let p = c.args.at.now.place in
+    let t = c.args.trail.now in
+    let m = t.marks.items in
+    let k : Next = run t.frames.items c.args.at.now.rest s in
     let b = c.args.b.now in
-    let lo = c.args.lo in
-    let hi = c.args.hi in
-    if_ok c.enter.result
-    (λ turn h s e.
-    let f = run c.args.trail.now.frames.items c.args.rest s in
-    gives_from turn s c.enter.new.trail c.args.trail.now _ (after (cut (repeat_paths (paths b s) true lo c.room_in-j.result p m)) f)
-    (ap (λ k. after (node_paths (repeat k c.args.one_wide lo hi b) s p m) f) c.in-Possessive.is
-    ∙ ap (λ n. after (cut (repeat_paths (paths b s) true lo (room_in n lo hi) p m)) f) e
-    ∙ ap (λ n. after (cut (repeat_paths (paths b s) true lo n p m)) f) (sym c.room_in-j.ensures))
-    (h s))
-    c.enter.ensures.gives
+    gives_is c.single_repeat.result _ s _ _ _ _ _
+    (ap (λ l. to_try s t (after l k)) (repeat_kind c.args.kind one_wide c.args.lo c.args.hi b s p m
+    ∙ ap (λ j. kind_paths c.args.kind (paths b s) c.args.lo j p m) (ap (λ n. room_in n c.args.lo c.args.hi) (sym c.count.ensures.count) ∙ sym c.room_in-j.ensures.room)))
+    c.single_repeat.ensures.gives
+
+pub returns-in-None-clause-gives : goal.returns-in-None-clause-gives
+returns-in-None-clause-gives g c one_wide =
+    let s = c.args.s.now in
+    let p = c.args.at.now.place in
+    let t = c.args.trail.now in
+    let m = t.marks.items in
+    let k : Next = run t.frames.items c.args.at.now.rest s in
+    let b = c.args.b.now in
+    gives_is c.general_repeat.result _ s _ _ _ _ _
+    (ap (λ l. to_try s t (after l k)) (repeat_kind c.args.kind one_wide c.args.lo c.args.hi b s p m
+    ∙ ap (λ j. kind_paths c.args.kind (paths b s) c.args.lo j p m) (ap (λ n. room_in n c.args.lo c.args.hi) (sym c.count.ensures.count) ∙ sym c.room_in-j.ensures.room)))
+    (c.general_repeat.ensures.gives s c.args.steps.now)

@@ -1,5 +1,6 @@
 use Rattle.std.proofs.Common.{◌∙◌, ap, length, arith}
 use Rattle.sre_match.specs.declared.trail.Choice.{Choice}
+use Rattle.sre_match.specs.Machine.{part_next, onward, wrap, to_try}
 use Rattle.sre_match.proofs.ChoiceLaws.{pile_keep, rising_keep, stacked_keep, levels_back, levels_most, level_most}
 use Rattle.sre_match.proofs.trail.keep.Goals as goal
 
@@ -10,16 +11,17 @@ overflow_add-levels c =
 pub returns-clause-tried : goal.returns-clause-tried
 returns-clause-tried c s xs =
     let t = c.args.trail.now in
-    let d : Choice = record { kind = c.args.kind; marks = c.mark_count-marks.result; step = c.args.step; place = c.args.place; rest = c.args.rest; frames = c.frame_count-frames.result } in
-    pile_keep s t.frames.items t.marks.items t.choices.items c.push_choice.new.choices.items d xs c.in_ok-push_choice.ensures (c.mark_count-marks.ensures ∙ ap length c.deref.ensures.value)
+    let d : Choice = record { part = c.args.part; place = c.args.place; rest = c.in_ok-rest.rest; frames = c.in_ok-frames.frames; marks = c.in_ok-marks.marks; kind = c.args.kind } in
+    pile_keep s t.frames.items t.marks.items t.choices.items c.push_choice.new.choices.items d xs c.in_ok-push_choice.ensures (c.in_ok-marks.ensures ∙ c.mark_count.ensures ∙ ap length c.deref.ensures.value)
+    ∙ ap (λ r. to_try s t (wrap c.args.kind (onward t.frames.items (part_next c.args.part s) r s) c.args.place t.marks.items xs)) c.in_ok-rest.ensures
 
 pub returns-clause-sound : goal.returns-clause-sound
 returns-clause-sound c =
     let t = c.args.trail.now in
-    let d : Choice = record { kind = c.args.kind; marks = c.mark_count-marks.result; step = c.args.step; place = c.args.place; rest = c.args.rest; frames = c.frame_count-frames.result } in
+    let d : Choice = record { part = c.args.part; place = c.args.place; rest = c.in_ok-rest.rest; frames = c.in_ok-frames.frames; marks = c.in_ok-marks.marks; kind = c.args.kind } in
     record {
-      rising = rising_keep 0 t.choices.items c.push_choice.new.choices.items d (length t.marks.items) c.requires.sound.rising c.in_ok-push_choice.ensures (c.mark_count-marks.ensures ∙ ap length c.deref.ensures.value);
-      stacked = stacked_keep 0 t.choices.items c.push_choice.new.choices.items d (length t.frames.items) c.requires.sound.stacked c.in_ok-push_choice.ensures (c.frame_count-frames.ensures.count ∙ ap length c.deref-2.ensures.value) c.requires.deep;
+      rising = rising_keep 0 t.choices.items c.push_choice.new.choices.items d (length t.marks.items) c.requires.sound.rising c.in_ok-push_choice.ensures (c.in_ok-marks.ensures ∙ c.mark_count.ensures ∙ ap length c.deref.ensures.value);
+      stacked = stacked_keep 0 t.choices.items c.push_choice.new.choices.items d (length t.frames.items) c.requires.sound.stacked c.in_ok-push_choice.ensures (c.in_ok-frames.ensures ∙ c.frame_count.ensures.count ∙ ap length c.deref-2.ensures.value) (omega (arith, c.in_ok-rest.ensures, c.requires.deep));
       inside = omega (arith, levels_back c.push_choice.new.choices.items t.choices.items d c.in_ok-push_choice.ensures, c.requires.sound.inside, c.level.ensures);
       down = c.requires.sound.down;
     }

@@ -1,0 +1,23 @@
+use Rattle.std.proofs.Common.{sym, ap, ◌∙◌}
+use Rattle.sre_match.specs.Machine.{run, to_try}
+use Rattle.sre_match.specs.Attempts.{after, Next}
+use Rattle.sre_match.specs.Paths.{paths}
+use Rattle.sre_match.specs.Branches.{each_paths}
+use Rattle.sre_match.proofs.AfterLaws.{after-append}
+use Rattle.sre_match.proofs.LessLaws.{leaves_is}
+use Rattle.sre_match.proofs.branches.chosen_turn.Goals as goal
+
+pub returns-clause-gives : goal.returns-clause-gives
+returns-clause-gives c s n =
+    let p = c.args.at.now.place in
+    let i = c.args.at.now.rest in
+    let old = c.args.trail.now in
+    let new = c.keep_later.new.trail in
+    let m = old.marks.items in
+    let t = c.args.t.now in
+    let k : Next = run old.frames.items i s in
+    let xs = after (paths t s p m) k in
+    leaves_is n _ _
+    (ap (to_try s old) (after-append (paths t s p m) (each_paths c.args.more.now s p m) k)
+    ∙ sym (c.in-Ok.ensures.tried s xs)
+    ∙ ap (to_try s new) (sym (λ j. after (paths (c.nodes.ensures j) s p (c.in-Ok.ensures.marks j)) (run (c.in-Ok.ensures.frames j) i s))))
