@@ -19,7 +19,7 @@ use Rattle.sre_match.specs.Branches.{each_paths, begins_single, is_out, left_of,
 use Rattle.sre_match.specs.Machine.{part_next, onward, Frames, wrap, pile, to_try, Leaves}
 use Rattle.sre_match.proofs.AfterLaws.{IsFull, IsTotal, append_full, after_full, after-append, after-charge, charge_append}
 use Rattle.sre_match.proofs.FullLaws.{full}
-use Rattle.sre_match.proofs.TurnLaws.{to_try_charge}
+use Rattle.sre_match.proofs.TurnLaws.{to_try_charge, tree_split}
 
 pub thin_refl : (xs : List Attempt) → Thin xs xs
 thin_refl [] = refl
@@ -194,3 +194,12 @@ is_nil (x ∷ xs) h = let f : ⊥ = omega (arith, h) in absurd f
 
 pub is_cons : {X : Type 0} (xs : List X) → 1 ≤ length xs → xs ≡ [] → ⊥
 is_cons xs h e = let f : ⊥ = omega (arith, h, ap length e) in f
+
+-- a list of nodes of which the first one is a unit that is met
+pub nodes_met : (ns : List Node) (n : Node) (s : List ℕ) (p : ℕ) (m : Marks) → 1 ≤ length ns → n ≡ get_or ns 0 n → is_single (node_of n) ≡ true → met_at (meets (node_of n)) s p ≡ true
+    → paths (tree_of ns) s p m ≡ charge 1 (paths (tree_of (take (length ns - 1) (drop 1 ns))) s (p + 1) m)
+nodes_met ns n s p m l e h o =
+    let more : PlainTree = tree_of (take (length ns - 1) (drop 1 ns)) in
+    ap (λ t. paths t s p m) (tree_split ns n l e)
+    ∙ ap (λ l. after l (paths more s)) (single_paths (node_of n) s p m h ∙ ap (λ b. attempt b 1 (p + 1) m) o)
+    ∙ append-nil (charge 1 (paths more s (p + 1) m))

@@ -1,6 +1,6 @@
 -- Where a turn leads, and what it has cost.
-use Rattle.std.proofs.Common.{◌≡◌, sym, ap, ◌∙◌, ℕ, ◌+◌, ◌≤◌, Bool, true, false, List, [], ◌∷◌, length, arith}
-use Rattle.std.specs.Prelude.{Option, Some}
+use Rattle.std.proofs.Common.{◌≡◌, refl, sym, ap, subst, ◌∙◌, ℕ, ◌+◌, ◌≤◌, Bool, true, false, List, [], ◌∷◌, length, arith}
+use Rattle.std.specs.Prelude.{Option, Some, Result, Ok, Err, IfOk}
 use Rattle.sre_match.specs.declared.trail.At.{At}
 use Rattle.sre_match.specs.declared.trail.Part.{Part}
 use Rattle.sre_code.specs.declared.tree.Node.{Node}
@@ -13,7 +13,7 @@ use Rattle.sre_code.specs.PlainTree.{PlainTree}
 use Rattle.sre_match.specs.Attempts.{Attempt, passed, Marks, stay, chosen, cost_of}
 use Rattle.sre_match.specs.Paths.{paths}
 use Rattle.sre_match.specs.Matches.{first_allowed, reads, is_allowed}
-use Rattle.sre_match.specs.Machine.{part_next, onward, to_try, pile, Sound, Less, Ends, Gives, Leads}
+use Rattle.sre_match.specs.Machine.{part_next, onward, to_try, pile, ahead_of, Sound, Less, Leaves, Ends, Gives, Leads}
 use Rattle.sre_match.proofs.AfterLaws.{after_stay}
 use Rattle.sre_match.proofs.ChoiceLaws.{pile_pass}
 use Rattle.sre_match.proofs.LessLaws.{less_less, chosen_first, chosen_later, cost_later}
@@ -53,33 +53,26 @@ leads_skip x a b ok s t r old new before h g e l =
 pile_none : (s : List ℕ) (t : Trail) (xs : List Attempt) → t.choices.items ≡ [] → to_try s t xs ≡ xs
 pile_none s t xs e = ap (λ cs. pile s t.frames.items t.marks.items cs xs) e
 
--- what a search at a place begins with
-pub begins : (t : PlainTree) (ns : List Node) (s : List ℕ) (i : ℕ) (ok : ℕ → Bool) (trail : Trail) (n : ℕ) (part : Part)
-    → tree_of ns ≡ t → trail.marks.items ≡ [] → trail.frames.items ≡ [] → trail.choices.items ≡ [] → part_next part s i [] ≡ paths (tree_of ns) s i []
-    → Less ok n n (paths t s i []) (to_try s trail (onward trail.frames.items (part_next part s) 0 s i trail.marks.items))
-begins t ns s i ok trail n part ut mm ff cc h =
-    let same : paths t s i [] ≡ to_try s trail (onward trail.frames.items (part_next part s) 0 s i trail.marks.items) =
-    sym (pile_none s trail (onward trail.frames.items (part_next part s) 0 s i trail.marks.items) cc
-    ∙ (λ x. onward (ff x) (part_next part s) 0 s i (mm x))
-    ∙ after_stay (part_next part s i [])
-    ∙ h
-    ∙ ap (λ y. paths y s i []) ut) in
-    record { same = ap (chosen ok) same; cost = omega (arith, ap (cost_of ok) same) }
+-- a trail without marks, frames and choices has only this part to try
+pub begins : (a : At) (s : List ℕ) (t : Trail) → t.marks.items ≡ [] → t.frames.items ≡ [] → t.choices.items ≡ [] → a.rest ≡ 0 → ahead_of a s t ≡ part_next a.part s a.place []
+begins a s t mm ff cc r =
+    pile_none s t (onward t.frames.items (part_next a.part s) a.rest s a.place t.marks.items) cc
+    ∙ (λ x. onward (ff x) (part_next a.part s) (r x) s a.place (mm x))
+    ∙ after_stay (part_next a.part s a.place [])
 
--- what a search at a place comes to
+-- what leaves a list has its outcome, at a cost within its own
 pub first_ends : (t : PlainTree) (s : List ℕ) (i : ℕ) (advance whole : Bool) (old mid new : ℕ) (xs : List Attempt) (o : Option (ℕ × Marks)) → i ≤ length s
-    → Less (is_allowed s i advance whole) old mid (paths t s i []) xs → Ends (is_allowed s i advance whole) mid new xs o
-    → (o ≡ first_allowed t s i advance whole) × (new ≤ old + reads t s i advance whole)
-first_ends t s i advance whole old mid new xs o le h k =
-    let e = less_ends (is_allowed s i advance whole) old mid new (paths t s i []) xs o h k in
-    (sym (first_within t s i advance whole le ∙ e.same), omega (arith, e.cost, reads_within t s i advance whole le))
+    → Leaves old mid (paths t s i []) xs → o ≡ chosen (is_allowed s i advance whole) xs → o ≡ first_allowed t s i advance whole
+first_ends t s i advance whole old mid new xs o le h e = e ∙ sym (first_within t s i advance whole le ∙ (h (is_allowed s i advance whole)).same)
 
--- and what it has read on the way
-pub less_reads : (t : PlainTree) (s : List ℕ) (i : ℕ) (advance whole : Bool) (old new : ℕ) (xs : List Attempt) → i ≤ length s
-    → Less (is_allowed s i advance whole) old new (paths t s i []) xs → new ≤ old + reads t s i advance whole
-less_reads t s i advance whole old new xs le h = omega (arith, h.cost, reads_within t s i advance whole le)
+pub first_cost : (t : PlainTree) (s : List ℕ) (i : ℕ) (advance whole : Bool) (old mid new : ℕ) (xs : List Attempt) → i ≤ length s
+    → Leaves old mid (paths t s i []) xs → new ≤ mid + cost_of (is_allowed s i advance whole) xs → new ≤ old + reads t s i advance whole
+first_cost t s i advance whole old mid new xs le h k = omega (arith, k, (h (is_allowed s i advance whole)).cost, reads_within t s i advance whole le)
 
--- where there was no memory
-pub never_reads : (t : PlainTree) (s : List ℕ) (i : ℕ) (advance whole : Bool) (old mid new : ℕ) (xs : List Attempt) → i ≤ length s
-    → Less (is_allowed s i advance whole) old mid (paths t s i []) xs → new ≤ mid + cost_of (is_allowed s i advance whole) xs → new ≤ old + reads t s i advance whole
-never_reads t s i advance whole old mid new xs le h k = omega (arith, h.cost, k, reads_within t s i advance whole le)
+-- the tree of some nodes
+pub leaves_tree : (n t : PlainTree) (s : List ℕ) (i old new : ℕ) (xs : List Attempt) → n ≡ t → Leaves old new (paths n s i []) xs → Leaves old new (paths t s i []) xs
+leaves_tree n t s i old new xs e h = let P : PlainTree → Type 0 = λ y. Leaves old new (paths y s i []) xs in subst P e h
+
+pub if_ok : {T E : Type 0} {P Q : T → Type 0} (r : Result T E) → ((t : T) → P t → Q t) → IfOk r P → IfOk r Q
+if_ok (Ok t) f h = f t h
+if_ok (Err e) f h = h

@@ -1,6 +1,6 @@
 //! The spans of a subject, one after another.
 
-ghost use Rattle.std.specs.Prelude.{◌≡◌, ◌≤◌, ◌+◌, false, IfOk, OnErr, [], OnOk};
+ghost use Rattle.std.specs.Prelude.{◌≡◌, ◌≢◌, ◌≤◌, ◌+◌, false, true, Ok, IfOk, OnErr, [], OnOk};
 ghost use Rattle.sre_match.specs.Matches.{if_found, next_span, next_reads};
 ghost use Rattle.sre_match.specs.Search.{Standing, stands_behind};
 
@@ -61,11 +61,12 @@ impl<'c, S: StrDrive> SearchIter<'c, S> {
     ///
     /// # Errors
     ///
-    /// `NoMemory`. The walk stands where it stood.
+    /// `NoMemory`. The walk stands where it stood, and has the span that it had.
     pub fn next<L: Ledger>(&mut self, steps: &mut Steps<L>) -> Result<bool, MatchError>
         ensures found { IfOk result (λ found. if_found found self.new.span ≡ next_span self.old.search.tree self.old.search.subject self.old.standing.place self.old.standing.advance false) }
         ensures moved { OnOk result (self.new.standing ≡ stands_behind (next_span self.old.search.tree self.old.search.subject self.old.standing.place self.old.standing.advance false) self.old.standing) }
         ensures refused { OnErr result (self.new.standing ≡ self.old.standing) }
+        ensures kept { result ≢ Ok true → self.new.span ≡ self.old.span }
         ensures search { self.new.search ≡ self.old.search }
         ensures cost { steps.new ≤ steps.old + next_reads self.old.search.tree self.old.search.subject self.old.standing.place self.old.standing.advance false }
     {

@@ -1,19 +1,22 @@
 //! The first allowed outcome of a tree at a place.
 
-ghost use Rattle.std.specs.Prelude.{◌≡◌, ◌+◌, ◌≤◌, ℕ, Bool, List, [], IfOk, option_map, length};
-ghost use Rattle.sre_match.specs.Machine.{run, part_next, step_next, to_try, ahead_of, Sound, Gives, Stands, Leads, Lands, outcome_with};
-ghost use Rattle.sre_match.specs.Attempts.{after};
+ghost use Rattle.std.specs.Prelude.{◌≡◌, ◌+◌, ◌≤◌, ℕ, Bool, List, [], None, IfOk, IfSome, option_map, length};
+ghost use Rattle.sre_match.specs.Machine.{run, part_next, step_next, to_try, ahead_of, Sound, Gives, Stands, Leaves, Leads, Lands, outcome_with};
+ghost use Rattle.sre_match.specs.Attempts.{after, chosen, cost_of};
+ghost use Rattle.sre_match.specs.Paths.{paths};
+ghost use Rattle.sre_code.specs.TreeView.{tree_of};
 ghost use Rattle.sre_match.specs.Matches.{is_allowed, first_allowed, reads};
 
 use crate::branches::trees_turn;
 use crate::nodes::nodes_turn;
 use crate::repeats::{once_turn, optional_turn, rep_turn};
+use crate::singles::{is_met, is_single};
 use crate::trail::{At, Part, Step, Trail, Turn, clear, drop_frame, frame_in, go_back};
 use crate::turns::{back_turn, close_turn, leave};
 use crate::units::Cut;
 use crate::view::StrDrive;
 use py_base::Steps;
-use sre_code::Tree;
+use sre_code::{Node, Tree};
 use std::alloc::AllocError;
 use std::sync::ledger::Ledger;
 
@@ -152,6 +155,68 @@ fn next_turn<'t, S: StrDrive, L: Ledger>(
     }
 }
 
+// Where a tree begins at a place. Where its first node is one unit, that is read at once; none says that it is
+// not met.
+fn first_look<'t, S: StrDrive, L: Ledger>(
+    nodes: &'t [Node],
+    s: &Cut<'_, S>,
+    place: usize,
+    steps: &mut Steps<L>,
+) -> Option<At<'t>>
+    ensures begins { IfSome result (λ at. Leaves steps.old steps.new (paths (tree_of nodes.entry.now) s.now place []) (part_next at.part s.now at.place [])) }
+    ensures rest { IfSome result (λ at. at.rest ≡ 0) }
+    ensures fails { result ≡ None → Leaves steps.old steps.new (paths (tree_of nodes.entry.now) s.now place []) [] }
+{
+    let whole = At {
+        part: Part::Nodes(nodes),
+        rest: 0,
+        place,
+    };
+    match nodes {
+        [] => Some(whole),
+        [node, more @ ..] => {
+            if !is_single(node) {
+                return Some(whole);
+            }
+            if !is_met(node, s, place, steps) {
+                return None;
+            }
+            Some(At {
+                part: Part::Nodes(more),
+                rest: 0,
+                place: place + 1,
+            })
+        }
+    }
+}
+
+// The end of the first allowed outcome of what is to be tried. The trail then has its marks.
+fn run_from<'t, S: StrDrive, L: Ledger>(
+    at: At<'t>,
+    trail: &mut Trail<'t>,
+    s: &Cut<'_, S>,
+    start: usize,
+    advance: bool,
+    whole: bool,
+    steps: &mut Steps<L>,
+) -> Result<Option<usize>, AllocError>
+    requires sound { Sound trail.old }
+    requires deep { at.rest ≤ length trail.old.frames.items }
+    ensures found { IfOk result (λ o. option_map (outcome_with trail.new.marks.items) o ≡ chosen (is_allowed s.now start advance whole) (ahead_of at.entry s.now trail.old)) }
+    ensures cost { steps.new ≤ steps.old + cost_of (is_allowed s.now start advance whole) (ahead_of at.entry s.now trail.old) }
+{
+    let mut at = at;
+    for _turn in 0..u64::MAX {
+        match next_turn(s, &mut at, trail, start, advance, whole, steps) {
+            After::More => {}
+            After::Found => return Ok(Some(at.place)),
+            After::Nothing => return Ok(None),
+            After::Never => return Err(AllocError),
+        }
+    }
+    Err(AllocError)
+}
+
 /// The end of the first allowed outcome of a tree at a place. The trail then has its marks.
 pub fn find_at<'t, S: StrDrive, L: Ledger>(
     trail: &mut Trail<'t>,
@@ -168,19 +233,11 @@ pub fn find_at<'t, S: StrDrive, L: Ledger>(
     if start > s.count() {
         return Ok(None);
     }
-    clear(trail);
-    let mut at = At {
-        part: Part::Nodes(tree.nodes()),
-        rest: 0,
-        place: start,
-    };
-    for _turn in 0..u64::MAX {
-        match next_turn(s, &mut at, trail, start, advance, whole, steps) {
-            After::More => {}
-            After::Found => return Ok(Some(at.place)),
-            After::Nothing => return Ok(None),
-            After::Never => return Err(AllocError),
+    match first_look(tree.nodes(), s, start, steps) {
+        None => Ok(None),
+        Some(at) => {
+            clear(trail);
+            run_from(at, trail, s, start, advance, whole, steps)
         }
     }
-    Err(AllocError)
 }

@@ -54,32 +54,6 @@ fn category_before<S: StrDrive, L: Ledger>(
     }
 }
 
-// Whether a line ends here.
-fn newline_at<S: StrDrive, L: Ledger>(s: &Cut<'_, S>, p: usize, steps: &mut Steps<L>) -> bool
-    ensures met { result ≡ met_at is_newline s.now p }
-    ensures cost { steps.new ≤ steps.old + 1 }
-{
-    match unit_at(s, p, steps) {
-        Some(c) => is_newline(c),
-        None => false,
-    }
-}
-
-// Whether one ended before this place.
-#[tactic(auto, using(crate::proofs::UnitLaws::before_one))]
-fn newline_before<S: StrDrive, L: Ledger>(s: &Cut<'_, S>, p: usize, steps: &mut Steps<L>) -> bool
-    ensures met { result ≡ met_before is_newline s.now p }
-    ensures cost { steps.new ≤ steps.old + 1 }
-{
-    if p == 0 {
-        return false;
-    }
-    match unit_before(s, p, steps) {
-        Some(c) => is_newline(c),
-        None => false,
-    }
-}
-
 // Whether exactly one side is a unit of a category.
 fn is_boundary<S: StrDrive, L: Ledger>(
     k: u32,
@@ -105,7 +79,7 @@ fn is_last_end<S: StrDrive, L: Ledger>(s: &Cut<'_, S>, p: usize, steps: &mut Ste
     if p == count {
         return true;
     }
-    p < count && p + 1 == count && newline_at(s, p, steps)
+    p < count && p + 1 == count && category_at(6, s, p, steps)
 }
 
 /// Whether a place is of kind k.
@@ -120,11 +94,11 @@ pub fn at_place<S: StrDrive, L: Ledger>(
 {
     match k {
         0 | 2 => p == 0,
-        1 => p == 0 || newline_before(s, p, steps),
+        1 => p == 0 || category_before(6, s, p, steps),
         3 => is_boundary(4, s, p, steps),
         4 => !is_boundary(4, s, p, steps),
         5 => is_last_end(s, p, steps),
-        6 => p == s.count() || newline_at(s, p, steps),
+        6 => p == s.count() || category_at(6, s, p, steps),
         7 => p == s.count(),
         10 => is_boundary(14, s, p, steps),
         11 => !is_boundary(14, s, p, steps),

@@ -30,18 +30,26 @@ fn word_in(words: &[u32], i: usize) -> u32
     }
 }
 
+// Bit n of a word.
+fn has_bit(word: u32, n: u32) -> bool
+    requires { n < 32 }
+    ensures { result ≡ spec.has_bit word n }
+{
+    (word >> n) % 2 == 1
+}
+
 // A bit of a set's words.
 fn bit_of(words: &[u32], c: u32) -> bool
     ensures { result ≡ spec.bit_of words.now c }
 {
-    let word = word_in(words, (c / 32) as usize);
-    (word >> (c % 32)) % 2 == 1
+    has_bit(word_in(words, (c / 32) as usize), c % 32)
 }
 
 // A byte of a set's map.
 #[tactic(auto, using(crate::proofs::SetLaws::byte_power))]
 fn byte_of(words: &[u32], h: u32) -> u32
-    ensures { result ≡ spec.byte_of words.now h }
+    ensures byte { result ≡ spec.byte_of words.now h }
+    ensures bound { result < 256 }
 {
     let word = word_in(words, (h / 4) as usize);
     (word >> (8 * (h % 4))) % 256
@@ -52,8 +60,10 @@ fn block_bit(blocks: &[u32], block: u32, c: u32) -> bool
     requires { block < 256 }
     ensures { result ≡ spec.block_bit blocks.now block c }
 {
-    let word = word_in(blocks, (8 * block + c % 256 / 32) as usize);
-    (word >> (c % 32)) % 2 == 1
+    has_bit(
+        word_in(blocks, (8 * block + c % 256 / 32) as usize),
+        c % 32,
+    )
 }
 
 // Whether the block that the map names for c holds it.
@@ -64,7 +74,7 @@ fn in_blocks(map: &[u32], blocks: &[u32], c: u32) -> bool
         return false;
     }
     let block = byte_of(map, c / 256);
-    (block as usize) < blocks.len() / 8 && block < 256 && block_bit(blocks, block, c)
+    (block as usize) < blocks.len() / 8 && block_bit(blocks, block, c)
 }
 
 // Whether an item holds c.

@@ -1,6 +1,6 @@
 //! The last match.
 
-ghost use Rattle.std.specs.Prelude.{◌≡◌, ◌≤◌, ◌+◌, [], IfOk, option_map};
+ghost use Rattle.std.specs.Prelude.{◌≡◌, ◌≢◌, ◌≤◌, ◌+◌, [], true, Ok, IfOk, option_map};
 ghost use Rattle.sre_match.specs.Matches.{if_found, span_at, first_allowed, reads, next_span, next_reads};
 
 use crate::error::MatchError;
@@ -14,7 +14,7 @@ use std::alloc::Global;
 use std::marker::Model;
 use std::sync::ledger::Ledger;
 
-/// The last match. What it holds after an answer that is not true is open until the next true one.
+/// The last match. An answer that is not true leaves it as it was.
 #[derive(Debug, Drop)]
 pub struct State {
     alloc: Global,
@@ -64,6 +64,7 @@ impl State {
         steps: &mut Steps<L>,
     ) -> Result<bool, MatchError>
         ensures found { IfOk result (λ found. if_found found self.new ≡ option_map (span_at request.now.start) (first_allowed request.now.tree request.now.subject request.now.start request.now.advance request.now.whole)) }
+        ensures kept { result ≢ Ok true → self.new ≡ self.old }
         ensures cost { steps.new ≤ steps.old + reads request.now.tree request.now.subject request.now.start request.now.advance request.now.whole }
     {
         let mut trail = new_trail(self.alloc);
@@ -88,6 +89,7 @@ impl State {
         steps: &mut Steps<L>,
     ) -> Result<bool, MatchError>
         ensures found { IfOk result (λ found. if_found found self.new ≡ next_span request.now.tree request.now.subject request.now.start request.now.advance request.now.whole) }
+        ensures kept { result ≢ Ok true → self.new ≡ self.old }
         ensures cost { steps.new ≤ steps.old + next_reads request.now.tree request.now.subject request.now.start request.now.advance request.now.whole }
     {
         let mut trail = new_trail(self.alloc);

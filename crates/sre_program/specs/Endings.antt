@@ -30,6 +30,10 @@ pub record Writing : Type 0 where
   pub faults_old : ℕ
   pub faults_new : ℕ
 
+-- nothing was read
+abbrev pub IsUnread : Reading → Type 0
+IsUnread r = r.left_new ≡ r.left_old
+
 -- nothing was written
 abbrev pub IsQuiet : Writing → Type 0
 IsQuiet w = w.held_new ≡ w.held_old
@@ -38,7 +42,7 @@ IsQuiet w = w.held_new ≡ w.held_old
 abbrev pub Ends : Ending → List (List ℕ) → ℕ → Reading → Writing → Type 0
 Ends Answered words most r w = IsSubstitution words × HasAtMost most r.left_old × IsAnswered r.left_old r.left_new w.held_old w.held_new
 Ends Faulted words most r w = IsSubstitution words × HasAtMost most r.left_old × IsFaulted r.left_old r.left_new w.held_old w.held_new
-Ends NoCommand words most r w = (IsSubstitution words → ⊥) × IsQuiet w
+Ends NoCommand words most r w = (IsSubstitution words → ⊥) × IsUnread r × IsQuiet w
 Ends NoRequest words most r w = IsSubstitution words × HasAtMost most r.left_old × IsMalformed r.left_old r.left_new × IsQuiet w
 Ends SourceFailed words most r w = IsSubstitution words × Rose r.faults_old r.faults_new × IsQuiet w
 Ends SinkFailed words most r w = IsSubstitution words × HasAtMost most r.left_old × IsCutShort r.left_old r.left_new w.held_old w.held_new × Rose w.faults_old w.faults_new

@@ -145,6 +145,7 @@ pub fn run<S: Source, K: Sink, L: Ledger>(
     ensures faulted { result ≡ 1 → IsFaulted (S.left source.old) (S.left source.new) (K.contents sink.old) (K.contents sink.new) }
 
     ensures no_command { (result ≡ 2) ↔ (IsSubstitution (map string_bytes words.now) → ⊥) }
+    ensures unread { result ≡ 2 → S.left source.new ≡ S.left source.old }
 
     // The source was read to its end, and its bytes are the text of no request.
     ensures malformed { result ≡ 3 → IsMalformed (S.left source.old) (S.left source.new) }

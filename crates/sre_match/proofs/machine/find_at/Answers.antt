@@ -1,45 +1,53 @@
-use Rattle.std.proofs.Common.{sym, refl, arith}
-use Rattle.sre_match.specs.declared.trail.Part.TheVariants.{Nodes}
+use Rattle.std.proofs.Common.{◌≡◌, sym, ap, refl, ◌∙◌, [], None, ◌≤◌, length, arith}
+use Rattle.sre_code.specs.TreeView.{tree_of}
+use Rattle.sre_code.specs.PlainTree.{PlainTree}
+use Rattle.sre_match.specs.Machine.{Leaves, ahead_of, part_next}
+use Rattle.sre_match.specs.Attempts.{chosen, cost_of}
 use Rattle.sre_match.specs.Matches.{is_allowed}
-use Rattle.sre_match.proofs.Leading.{begins, first_ends, less_reads, never_reads}
+use Rattle.sre_match.specs.Paths.{paths}
+use Rattle.sre_match.proofs.Leading.{begins, first_ends, first_cost, leaves_tree, if_ok}
 use Rattle.sre_match.proofs.Nexts.{first_past}
 use Rattle.sre_match.proofs.machine.find_at.Goals as goal
-
-pub loop-turn-init : goal.loop-turn-init
-loop-turn-init g c =
-    let s = c.args.s.now in
-    let t = c.clear.new.trail in
-    let e = c.clear.ensures in
-    record {
-      less = begins c.args.tree.now c.nodes.result.now s c.args.start (is_allowed s c.args.start c.args.advance c.args.whole) t c.args.steps.now (Nodes c.nodes.result)
-          c.nodes.ensures e.marks e.frames e.choices refl;
-      sound = record { rising = rw e.choices (omega arith); stacked = rw e.choices (omega arith); inside = rw (e.choices, e.levels) refl; down = rw e.frames tt };
-      deep = omega arith;
-    }
 
 pub returns-then-start-count-clause-found : goal.returns-then-start-count-clause-found
 returns-then-start-count-clause-found g c = sym (first_past c.args.tree.now c.args.s.now c.args.start c.args.advance c.args.whole (omega (arith, c.count.ensures.count, c.if-start-count.true)))
 
-pub returns-in-Found-clause-found : goal.returns-in-Found-clause-found
-returns-in-Found-clause-found g c =
-    (first_ends c.args.tree.now c.args.s.now c.args.start c.args.advance c.args.whole _ _ _ _ _ (omega (arith, c.count.ensures.count, c.if-start-count.false)) c.loop-turn.invariant.less (rw c.in-Found.is at c.next_turn.ensures.leads)).0
+pub returns-in-None-clause-found : goal.returns-in-None-clause-found
+returns-in-None-clause-found g c =
+    let s = c.args.s.now in
+    let n = c.args.steps.now in
+    first_ends c.args.tree.now s c.args.start c.args.advance c.args.whole n c.first_look.new.steps n [] None (omega (arith, c.count.ensures.count, c.if-start-count.false))
+    (leaves_tree (tree_of c.nodes.result.now) c.args.tree.now s c.args.start n c.first_look.new.steps [] c.nodes.ensures (c.in-None.ensures.fails refl)) refl
 
-pub returns-in-Found-clause-cost : goal.returns-in-Found-clause-cost
-returns-in-Found-clause-cost g c =
-    (first_ends c.args.tree.now c.args.s.now c.args.start c.args.advance c.args.whole _ _ _ _ _ (omega (arith, c.count.ensures.count, c.if-start-count.false)) c.loop-turn.invariant.less (rw c.in-Found.is at c.next_turn.ensures.leads)).1
+pub returns-in-None-clause-cost : goal.returns-in-None-clause-cost
+returns-in-None-clause-cost g c =
+    let s = c.args.s.now in
+    let n = c.args.steps.now in
+    first_cost c.args.tree.now s c.args.start c.args.advance c.args.whole n c.first_look.new.steps c.first_look.new.steps [] (omega (arith, c.count.ensures.count, c.if-start-count.false))
+    (leaves_tree (tree_of c.nodes.result.now) c.args.tree.now s c.args.start n c.first_look.new.steps [] c.nodes.ensures (c.in-None.ensures.fails refl)) (omega arith)
 
-pub returns-in-Nothing-clause-found : goal.returns-in-Nothing-clause-found
-returns-in-Nothing-clause-found g c =
-    (first_ends c.args.tree.now c.args.s.now c.args.start c.args.advance c.args.whole _ _ _ _ _ (omega (arith, c.count.ensures.count, c.if-start-count.false)) c.loop-turn.invariant.less (rw c.in-Nothing.is at c.next_turn.ensures.leads)).0
+pub returns-in-Some-clause-found : goal.returns-in-Some-clause-found
+returns-in-Some-clause-found g c =
+    let s = c.args.s.now in
+    let n = c.args.steps.now in
+    let at = c.in-Some.at in
+    let t = c.clear.new.trail in
+    let e = c.clear.ensures in
+    let xs = part_next at.part s at.place [] in
+    if_ok c.run_from.result
+    (λ o h. first_ends c.args.tree.now s c.args.start c.args.advance c.args.whole n c.first_look.new.steps n xs _ (omega (arith, c.count.ensures.count, c.if-start-count.false))
+        (leaves_tree (tree_of c.nodes.result.now) c.args.tree.now s c.args.start n c.first_look.new.steps xs c.nodes.ensures c.in-Some.ensures.begins)
+        (h ∙ ap (chosen (is_allowed s c.args.start c.args.advance c.args.whole)) (begins at s t e.marks e.frames e.choices c.in-Some.ensures.rest)))
+    c.run_from.ensures.found
 
-pub returns-in-Nothing-clause-cost : goal.returns-in-Nothing-clause-cost
-returns-in-Nothing-clause-cost g c =
-    (first_ends c.args.tree.now c.args.s.now c.args.start c.args.advance c.args.whole _ _ _ _ _ (omega (arith, c.count.ensures.count, c.if-start-count.false)) c.loop-turn.invariant.less (rw c.in-Nothing.is at c.next_turn.ensures.leads)).1
-
-pub returns-in-Never-clause-cost : goal.returns-in-Never-clause-cost
-returns-in-Never-clause-cost g c =
-    never_reads c.args.tree.now c.args.s.now c.args.start c.args.advance c.args.whole _ _ _ _ (omega (arith, c.count.ensures.count, c.if-start-count.false)) c.loop-turn.invariant.less (rw c.in-Never.is at c.next_turn.ensures.leads)
-
-pub returns-clause-cost : goal.returns-clause-cost
-returns-clause-cost g c =
-    less_reads c.args.tree.now c.args.s.now c.args.start c.args.advance c.args.whole _ _ _ (omega (arith, c.count.ensures.count, c.if-start-count.false)) c.loop-turn.invariant.less
+pub returns-in-Some-clause-cost : goal.returns-in-Some-clause-cost
+returns-in-Some-clause-cost g c =
+    let s = c.args.s.now in
+    let n = c.args.steps.now in
+    let at = c.in-Some.at in
+    let t = c.clear.new.trail in
+    let e = c.clear.ensures in
+    let xs = part_next at.part s at.place [] in
+    first_cost c.args.tree.now s c.args.start c.args.advance c.args.whole n c.first_look.new.steps c.run_from.new.steps xs (omega (arith, c.count.ensures.count, c.if-start-count.false))
+    (leaves_tree (tree_of c.nodes.result.now) c.args.tree.now s c.args.start n c.first_look.new.steps xs c.nodes.ensures c.in-Some.ensures.begins)
+    (omega (arith, c.run_from.ensures.cost, ap (cost_of (is_allowed s c.args.start c.args.advance c.args.whole)) (begins at s t e.marks e.frames e.choices c.in-Some.ensures.rest)))
