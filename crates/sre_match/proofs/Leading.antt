@@ -1,14 +1,11 @@
 -- Where a turn leads, and what it has cost.
-use Rattle.std.proofs.Common.{◌≡◌, refl, sym, ap, subst, ◌∙◌, ℕ, ◌+◌, ◌≤◌, Bool, true, false, List, [], ◌∷◌, length, arith}
+use Rattle.std.proofs.Common.{◌≡◌, sym, ap, subst, ◌∙◌, ℕ, ◌+◌, ◌≤◌, Bool, true, false, List, [], ◌∷◌, length, arith}
 use Rattle.std.specs.Prelude.{Option, Some, Result, Ok, Err, IfOk}
 use Rattle.sre_match.specs.declared.trail.At.{At}
-use Rattle.sre_match.specs.declared.trail.Part.{Part}
-use Rattle.sre_code.specs.declared.tree.Node.{Node}
-use Rattle.sre_code.specs.TreeView.{tree_of}
 use Rattle.sre_match.specs.declared.trail.Trail.{Trail}
 use Rattle.sre_match.specs.declared.trail.Turn.TheVariants.{Done}
 use Rattle.sre_match.specs.declared.machine.After.{After}
-use Rattle.sre_match.specs.declared.machine.After.TheVariants.{More, Found, Nothing, Never}
+use Rattle.sre_match.specs.declared.machine.After.TheVariants.{More, Found, Nothing, NoMemory}
 use Rattle.sre_code.specs.PlainTree.{PlainTree}
 use Rattle.sre_match.specs.Attempts.{Attempt, passed, Marks, stay, chosen, cost_of}
 use Rattle.sre_match.specs.Paths.{paths}
@@ -27,7 +24,7 @@ pub leads_less : (x : After) (a : At) (ok : ℕ → Bool) (s : List ℕ) (t : Tr
 leads_less More a ok s t old mid new xs ys h k = less_less ok old mid new xs ys _ h k
 leads_less Found a ok s t old mid new xs ys h k = less_ends ok old mid new xs ys _ h k
 leads_less Nothing a ok s t old mid new xs ys h k = less_ends ok old mid new xs ys _ h k
-leads_less Never a ok s t old mid new xs ys h k = omega (arith, h.cost, k)
+leads_less NoMemory a ok s t old mid new xs ys h k = omega (arith, h.cost, k)
 
 -- a match at the end of the tree
 at_end : (s : List ℕ) (t : Trail) (p : ℕ) → Sound t → t.levels ≡ 0 → to_try s t (stay p t.marks.items) ≡ passed 0 p t.marks.items ∷ to_try s t []

@@ -13,7 +13,7 @@ use Rattle.sre_match.specs.declared.trail.At.{At}
 use Rattle.sre_match.specs.declared.trail.Turn.{Turn}
 use Rattle.sre_match.specs.declared.trail.Turn.TheVariants.{Go, Fail, Done, Full}
 use Rattle.sre_match.specs.declared.machine.After.{After}
-use Rattle.sre_match.specs.declared.machine.After.TheVariants.{More, Found, Nothing, Never}
+use Rattle.sre_match.specs.declared.machine.After.TheVariants.{More, Found, Nothing, NoMemory}
 use Rattle.sre_code.specs.declared.tree.RepeatKind.{RepeatKind}
 use Rattle.sre_code.specs.declared.tree.RepeatKind.TheVariants.{Greedy, Lazy, Possessive}
 use Rattle.sre_code.specs.TreeView.{tree_of, trees_of}
@@ -178,14 +178,14 @@ abbrev pub Leads : After → At → (ℕ → Bool) → List ℕ → Trail → �
 Leads More a ok s t old new before = Less ok old new before (ahead_of a s t)
 Leads Found a ok s t old new before = Ends ok old new before (Some (a.place, t.marks.items))
 Leads Nothing a ok s t old new before = Ends ok old new before None
-Leads Never a ok s t old new before = new ≤ old + cost_of ok before
+Leads NoMemory a ok s t old new before = new ≤ old + cost_of ok before
 
 -- where the matcher then stands
 abbrev pub Lands : After → At → Trail → Type 0
 Lands More a t = Sound t × (a.rest ≤ length t.frames.items)
 Lands Found a t = Unit {0}
 Lands Nothing a t = Unit {0}
-Lands Never a t = Unit {0}
+Lands NoMemory a t = Unit {0}
 
 -- an end, with the marks of the way to it
 abbrev pub outcome_with : Marks → ℕ → ℕ × Marks

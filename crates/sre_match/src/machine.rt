@@ -30,7 +30,7 @@ pub enum After {
     /// There is none.
     Nothing,
     /// There was no memory.
-    Never,
+    NoMemory,
 }
 
 // Whether an end is allowed.
@@ -151,7 +151,7 @@ fn next_turn<'t, S: StrDrive, L: Ledger>(
                 retry(at, trail)
             }
         }
-        Turn::Full => After::Never,
+        Turn::Full => After::NoMemory,
     }
 }
 
@@ -211,7 +211,7 @@ fn run_from<'t, S: StrDrive, L: Ledger>(
             After::More => {}
             After::Found => return Ok(Some(at.place)),
             After::Nothing => return Ok(None),
-            After::Never => return Err(AllocError),
+            After::NoMemory => return Err(AllocError),
         }
     }
     Err(AllocError)

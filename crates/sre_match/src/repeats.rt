@@ -269,7 +269,7 @@ fn single_repeat<'t, S: StrDrive, L: Ledger>(
 {
     match kind {
         RepeatKind::Greedy => greedy_turn(b, node, lo, j, s, at, trail, steps),
-        RepeatKind::Lazy => rep_turn(b, false, lo, j, at, trail),
+        RepeatKind::Lazy => general_repeat(kind, b, lo, j, at, trail),
         RepeatKind::Possessive => possessive_turn(b, node, lo, j, s, at, trail, steps),
     }
 }

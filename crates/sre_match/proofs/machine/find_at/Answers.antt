@@ -1,10 +1,8 @@
-use Rattle.std.proofs.Common.{◌≡◌, sym, ap, refl, ◌∙◌, [], None, ◌≤◌, length, arith}
+use Rattle.std.proofs.Common.{sym, ap, refl, ◌∙◌, [], None, arith}
 use Rattle.sre_code.specs.TreeView.{tree_of}
-use Rattle.sre_code.specs.PlainTree.{PlainTree}
-use Rattle.sre_match.specs.Machine.{Leaves, ahead_of, part_next}
+use Rattle.sre_match.specs.Machine.{part_next}
 use Rattle.sre_match.specs.Attempts.{chosen, cost_of}
 use Rattle.sre_match.specs.Matches.{is_allowed}
-use Rattle.sre_match.specs.Paths.{paths}
 use Rattle.sre_match.proofs.Leading.{begins, first_ends, first_cost, leaves_tree, if_ok}
 use Rattle.sre_match.proofs.Nexts.{first_past}
 use Rattle.sre_match.proofs.machine.find_at.Goals as goal
@@ -36,8 +34,8 @@ returns-in-Some-clause-found g c =
     let xs = part_next at.part s at.place [] in
     if_ok c.run_from.result
     (λ o h. first_ends c.args.tree.now s c.args.start c.args.advance c.args.whole n c.first_look.new.steps n xs _ (omega (arith, c.count.ensures.count, c.if-start-count.false))
-        (leaves_tree (tree_of c.nodes.result.now) c.args.tree.now s c.args.start n c.first_look.new.steps xs c.nodes.ensures c.in-Some.ensures.begins)
-        (h ∙ ap (chosen (is_allowed s c.args.start c.args.advance c.args.whole)) (begins at s t e.marks e.frames e.choices c.in-Some.ensures.rest)))
+    (leaves_tree (tree_of c.nodes.result.now) c.args.tree.now s c.args.start n c.first_look.new.steps xs c.nodes.ensures c.in-Some.ensures.begins)
+    (h ∙ ap (chosen (is_allowed s c.args.start c.args.advance c.args.whole)) (begins at s t e.marks e.frames e.choices c.in-Some.ensures.rest)))
     c.run_from.ensures.found
 
 pub returns-in-Some-clause-cost : goal.returns-in-Some-clause-cost

@@ -1,4 +1,4 @@
-use Rattle.std.proofs.Common.{sym, ◌∙◌, ◌-◌, length, take, drop, [], ◌+◌, arith}
+use Rattle.std.proofs.Common.{sym, ◌∙◌, ◌-◌, length, take, drop, [], ◌+◌}
 use Rattle.sre_code.specs.TreeView.{tree_of}
 use Rattle.sre_match.proofs.BranchLaws.{nodes_met}
 use Rattle.sre_match.proofs.FullLaws.{full}
