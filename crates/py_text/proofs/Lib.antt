@@ -1,1 +1,4 @@
+pub mod Asciis
 pub mod Points
+pub mod Repeats
+pub mod Strides

@@ -1,1 +1,5 @@
+pub mod Affixes
+pub mod Iteration
 pub mod Mark
+pub mod Slices
+pub mod TextHash

@@ -1,9 +1,16 @@
 //! Texts as lists of code points, bytes, and lists of texts.
 #![tactic(auto)]
 
+mod bytes;
 mod list;
+mod order;
+mod shared;
+mod slices;
+mod sums;
 mod text;
 mod walk;
 
-pub use list::TextList;
+pub use bytes::PyBytes;
+pub use list::{Partition, TextList};
+pub use shared::PyStrRef;
 pub use text::PyStr;

@@ -1,4 +1,4 @@
-//! A list of texts.
+//! A list of texts, and the three parts of a text.
 
 ghost use Rattle.std.specs.Prelude.{◌≡◌, List, [], ◌∷◌, ◌++◌, length, slice_get, option_copied, OnOk, OnErr, IsOkUnless};
 
@@ -60,4 +60,12 @@ impl TextList {
     {
         self.items.get(i)
     }
+}
+
+/// A text in three parts: what stands before a separator, the separator, and what stands behind it.
+#[derive(Debug)]
+pub struct Partition<'a> {
+    pub front: &'a str,
+    pub mid: &'a str,
+    pub back: &'a str,
 }

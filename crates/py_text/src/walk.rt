@@ -1,6 +1,6 @@
 //! Where code points begin in a text.
 
-ghost use Rattle.std.specs.Prelude.{◌≡◌, ◌≤◌, length, take, drop, slice_range, chars};
+ghost use Rattle.std.specs.Prelude.{◌≡◌, ◌≤◌, ◌<◌, length, take, drop, slice_get, slice_range, chars, Some};
 ghost use Rattle.std.specs.Str.{IsCharBoundary};
 
 /// How many bytes the first `n` code points take.
@@ -25,4 +25,12 @@ pub(crate) fn part_of(s: &str, start: usize, end: usize) -> &str
 {
     let tail = &s[offset_of(s, start)..];
     &tail[..offset_of(tail, end - start)]
+}
+
+/// The code point at a place.
+pub(crate) fn char_at(s: &str, index: usize) -> char
+    requires { index < length (chars s.now) }
+    ensures { slice_get (chars s.now) index ≡ Some result }
+{
+    s[offset_of(s, index)..].chars().next().unwrap()
 }

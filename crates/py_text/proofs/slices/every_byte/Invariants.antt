@@ -1,0 +1,14 @@
+use Rattle.std.proofs.Common.{◌≡◌, ◌++◌, length, true}
+use Rattle.py_text.specs.Mark.{all_ascii}
+use Rattle.py_text.specs.Slices.{every}
+use Rattle.py_text.proofs.slices.every_byte.Given as goal
+
+abbrev pub invariant-loop-byte : goal.invariant-loop-byte
+invariant-loop-byte l = record {
+  ascii : all_ascii l.rest ≡ true;
+  kept_ascii : all_ascii l.kept.items ≡ true;
+  sofar : l.kept.items ++ every l.step l.rest ≡ every l.step l.bytes;
+}
+
+abbrev pub decreases-loop-byte : goal.decreases-loop-byte
+decreases-loop-byte l = length l.rest

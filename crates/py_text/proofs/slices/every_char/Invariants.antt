@@ -1,0 +1,12 @@
+use Rattle.std.proofs.Common.{◌≡◌, ◌++◌, ◌<◌, chars, string_bytes}
+use Rattle.std.specs.Str.{IsUtf8}
+use Rattle.std.specs.Str.Iter.{chars_rest}
+use Rattle.py_text.specs.Slices.{every, every_after}
+use Rattle.py_text.proofs.slices.every_char.Given as goal
+
+abbrev pub invariant-chars : goal.invariant-chars
+invariant-chars l = record {
+  utf8 : IsUtf8 (chars_rest l.rest);
+  below : l.skip < l.step;
+  sofar : chars (string_bytes l.text) ++ every_after l.step l.skip (chars (chars_rest l.rest)) ≡ every l.step (chars l.part);
+}

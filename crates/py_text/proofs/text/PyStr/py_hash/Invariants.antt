@@ -1,0 +1,7 @@
+use Rattle.std.proofs.Common.{◌≡◌, take, encode_utf8_all}
+use Rattle.std.specs.Prelude.{bit_xor, fold}
+use Rattle.py_text.specs.TextHash.{mixed}
+use Rattle.py_text.proofs.text.PyStr.py_hash.Given as goal
+
+abbrev pub invariant-loop-byte : goal.invariant-loop-byte
+invariant-loop-byte l = l.hash ≡ fold mixed (bit_xor l.seed 14695981039346656037) (take l.byte-index l.byte-items)

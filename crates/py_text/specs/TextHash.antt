@@ -1,0 +1,19 @@
+-- The hash of a text.
+use Rattle.std.specs.Prelude.{◌≡◌, ℕ, ℤ, ◌*◌, ◌%◌, ◌^◌, bit_xor, List, nat_eq, true, encode_utf8_all, fold}
+use Rattle.std.specs.Cmp.Lexicographic.{pointwise, bytes_decides}
+use Rattle.std.specs.Hash as fed
+use Rattle.std.specs.Int.{cast_signed, w64}
+use Rattle.std.proofs.Common.{ap}
+use Rattle.py_base.specs.Hashes.{never_minus_one}
+
+-- one byte more, by the hash of Fowler, Noll and Vo (FNV-1a) of 64 bits
+abbrev pub mixed : ℕ → ℕ → ℕ
+mixed h b = (bit_xor h b * 1099511628211) % 2 ^ 64
+
+-- the UTF-8 bytes, mixed in one after another
+abbrev pub text_hash : ℕ → List ℕ → ℤ
+text_hash seed L = never_minus_one (cast_signed w64 (fold mixed (bit_xor seed 14695981039346656037) (encode_utf8_all L)))
+
+-- equal texts feed a hasher the same
+pub alike_texts : (a b : List ℕ) → pointwise nat_eq a b ≡ true → fed.str (encode_utf8_all a) ≡ fed.str (encode_utf8_all b)
+alike_texts a b h = ap (λ t. fed.str (encode_utf8_all t)) ((bytes_decides a b).0 h)
