@@ -1,4 +1,6 @@
+pub mod AffixLaws
 pub mod Asciis
 pub mod Points
 pub mod Repeats
+pub mod SliceLaws
 pub mod Strides

@@ -1,8 +1,11 @@
 -- A text repeated, and hashed byte by byte.
-use Rattle.std.proofs.Common.{◌≡◌, ◌∙◌, ◌+◌, ℕ, zero, suc, List, [], ◌∷◌, ◌++◌, sym, ap, refl, append_assoc, append-nil, chars, arith}
+use Rattle.std.proofs.Common.{◌≡◌, ◌∙◌, ◌+◌, ℕ, zero, suc, List, [], ◌∷◌, ◌++◌, sym, ap, refl, append_assoc, append-nil, chars, arith, true, ℤ, pos, negsuc, length}
+use Rattle.std.specs.Prelude.{int_le, ◌==◌}
+use Rattle.std.proofs.lemmas.Bool.Decides.{nat_tests}
+use Rattle.std.proofs.lemmas.List.{nil_from_length}
 use Rattle.std.specs.Str.{IsUtf8}
 use Rattle.std.proofs.lemmas.Str.{chars-append}
-use Rattle.py_text.specs.Affixes.{copies}
+use Rattle.py_text.specs.Affixes.{copies, times}
 
 -- one more copy, at the end
 copies_suc : (n : ℕ) (L : List ℕ) → copies n L ++ L ≡ copies (suc n) L
@@ -15,3 +18,23 @@ copies_more n L = copies_suc n L ∙ ap (λ k. copies k L) {x = suc n} {y = n + 
 -- one more text, by its bytes
 pub copies_pushed : (n : ℕ) (L old more new : List ℕ) → IsUtf8 old → new ≡ old ++ more → chars more ≡ L → chars old ≡ copies n L → chars new ≡ copies (n + 1) L
 copies_pushed n L old more new u e m h = ap chars e ∙ chars-append old more u ∙ ap (λ (l : List ℕ). l ++ chars more) h ∙ ap (λ (l : List ℕ). copies n L ++ l) m ∙ copies_more n L
+
+-- no copies
+pub copies_nil : (n : ℕ) → copies n [] ≡ []
+copies_nil zero = refl
+copies_nil (suc n) = copies_nil n
+
+no_more : (n : ℕ) → int_le (pos n) (pos 0) ≡ true → n ≡ 0
+no_more n h = grind (arith, nat_tests)
+
+pub times_none : (v : ℤ) (L : List ℕ) → int_le v (pos 0) ≡ true → [] ≡ times v L
+times_none (pos n) L h = sym (ap (λ m. copies m L) (no_more n h))
+times_none (negsuc n) L h = refl
+
+times_nil : (v : ℤ) → [] ≡ times v []
+times_nil (pos n) = sym (copies_nil n)
+times_nil (negsuc n) = refl
+
+pub times_empty : (v : ℤ) (L : List ℕ) → true ≡ (length L == 0) → [] ≡ times v L
+times_empty v [] h = times_nil v
+times_empty v (x ∷ xs) h = absurd (grind (arith, nat_tests))

@@ -1,6 +1,6 @@
 //! Items and slices of a text.
 
-ghost use Rattle.std.specs.Prelude.{◌≡◌, ◌≤◌, ◌<◌, ◌≤ℤ◌, ℤ, pos, Err, unsigned_abs, ◌⊎◌, List, length, reverse, chars, slice_get, slice_range, Option, Some, unwrap_or, true, false, IfOk, IfErr, IsOkUnless, ok_or};
+ghost use Rattle.std.specs.Prelude.{◌≡◌, ◌≤◌, ◌<◌, ◌≢◌, ◌+ℤ◌, neg_ℤ, ◌-◌, ◌^◌, min, ℤ, pos, negsuc, Err, ◌⊎◌, List, length, reverse, chars, slice_get, slice_range, Option, Some, unwrap_or, true, false, IfOk, IfErr, IsOkUnless, ok_or};
 ghost use Rattle.py_text.specs.Mark.{all_ascii};
 ghost use Rattle.py_text.specs.Slices.{item_of, end_of, slice_of, every};
 
@@ -137,39 +137,94 @@ impl PyStr {
         ensures ok { IfOk result (λ made. made ≡ slice_of self.now start stop (unwrap_or step (pos 1))) }
         ensures err { IfErr result (λ e. (e ≡ PyError.NoMemory) ⊎ ((e ≡ PyError.StepZero) × (step ≡ Some (pos 0)))) }
     {
-        let step = step.unwrap_or(1);
-        if step == 0 {
-            return Err(PyError::StepZero);
+        match step {
+            Some(0) => Err(PyError::StepZero),
+            Some(step) => self.taken(alloc, start, stop, step),
+            None => self.taken(alloc, start, stop, 1),
         }
-        let len = self.len() as i128;
-        let stride = step.unsigned_abs().min(u64::MAX as u128) as usize;
+    }
+
+    fn taken(
+        &self,
+        alloc: Global,
+        start: Option<i128>,
+        stop: Option<i128>,
+        step: i128,
+    ) -> PyResult<PyStr>
+        requires { step ≢ pos 0 }
+        ensures ok { IfOk result (λ made. made ≡ slice_of self.now start stop step) }
+        ensures err { IsOkUnless result PyError.NoMemory }
+    {
         if step > 0 {
-            let from = end_at(start, len, 0, len, 0);
-            let to = end_at(stop, len, 0, len, len);
-            self.do_stepped_slice(alloc, from.min(to) as usize..to as usize, stride)
+            self.taken_forward(alloc, start, stop, step.unsigned_abs())
         } else {
-            let from = end_at(start, len, -1, len - 1, len - 1);
-            let to = end_at(stop, len, -1, len - 1, -1);
-            self.do_stepped_slice_reverse(
-                alloc,
-                (to + 1).min(from + 1) as usize..(from + 1) as usize,
-                stride,
-            )
+            self.taken_back(alloc, start, stop, step.unsigned_abs())
         }
+    }
+
+    fn taken_forward(
+        &self,
+        alloc: Global,
+        start: Option<i128>,
+        stop: Option<i128>,
+        step: u128,
+    ) -> PyResult<PyStr>
+        requires { 1 ≤ step }
+        ensures ok { IfOk result (λ made. made ≡ slice_of self.now start stop (pos step)) }
+        ensures err { IsOkUnless result PyError.NoMemory }
+    {
+        let from = forward_end(start, self.len(), 0);
+        let to = forward_end(stop, self.len(), self.len());
+        self.do_stepped_slice(alloc, from.min(to)..to, stride(step))
+    }
+
+    fn taken_back(
+        &self,
+        alloc: Global,
+        start: Option<i128>,
+        stop: Option<i128>,
+        step: u128,
+    ) -> PyResult<PyStr>
+        requires { 1 ≤ step }
+        ensures ok { IfOk result (λ made. made ≡ slice_of self.now start stop (neg_ℤ (pos step))) }
+        ensures err { IsOkUnless result PyError.NoMemory }
+    {
+        let from = back_end(start, self.len(), self.len());
+        let to = back_end(stop, self.len(), 0);
+        self.do_stepped_slice_reverse(alloc, to.min(from)..from, stride(step))
     }
 }
 
-/// Where a slice of a list of `len` items begins or stops.
-fn end_at(given: Option<i128>, len: i128, low: i128, high: i128, absent: i128) -> i128
-    requires { pos 0 ≤ℤ len }
-    ensures { result ≡ end_of (unsigned_abs len) low high absent given }
+/// A step: one past every text takes the same as the longest one.
+fn stride(step: u128) -> usize
+    ensures { result ≡ min step (2 ^ 64 - 1) }
 {
-    match given {
-        Some(place) => {
-            let place = if place < 0 { place + len } else { place };
-            place.min(high).max(low)
-        }
-        None => absent,
+    step.min(u64::MAX as u128) as usize
+}
+
+/// An end of a slice with a step above 0.
+fn forward_end(given: Option<i128>, len: usize, absent: usize) -> usize
+    requires { absent ≤ len }
+    ensures place { pos result ≡ end_of len (pos 0) (pos len) (pos absent) given }
+    ensures inside { result ≤ len }
+{
+    let Some(place) = given else { return absent };
+    let size = place.unsigned_abs().min(len as u128) as usize;
+    if place < 0 { len - size } else { size }
+}
+
+/// One past an end of a slice with a step below 0.
+fn back_end(given: Option<i128>, len: usize, absent: usize) -> usize
+    requires { absent ≤ len }
+    ensures place { pos result ≡ end_of len (negsuc 0) (pos len +ℤ negsuc 0) (pos absent +ℤ negsuc 0) given +ℤ pos 1 }
+    ensures inside { result ≤ len }
+{
+    let Some(place) = given else { return absent };
+    let size = place.unsigned_abs();
+    if place < 0 {
+        len - (size - 1).min(len as u128) as usize
+    } else {
+        (size + 1).min(len as u128) as usize
     }
 }
 

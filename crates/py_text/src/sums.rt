@@ -70,9 +70,10 @@ impl PyStr {
     pub fn removeprefix(&self, pref: &PyStr) -> &str
         ensures { chars result.now ≡ without_prefix pref.now self.now }
     {
-        match self.as_str().strip_prefix(pref.as_str()) {
+        let text = self.as_str();
+        match text.strip_prefix(pref.as_str()) {
             Some(rest) => rest,
-            None => self.as_str(),
+            None => text,
         }
     }
 
@@ -81,9 +82,10 @@ impl PyStr {
     pub fn removesuffix(&self, suffix: &PyStr) -> &str
         ensures { chars result.now ≡ without_suffix suffix.now self.now }
     {
-        match self.as_str().strip_suffix(suffix.as_str()) {
+        let text = self.as_str();
+        match text.strip_suffix(suffix.as_str()) {
             Some(rest) => rest,
-            None => self.as_str(),
+            None => text,
         }
     }
 }
