@@ -1,10 +1,10 @@
 -- Prefixes and suffixes of texts, by their bytes.
-use Rattle.std.proofs.Common.{◌≡◌, ◌∙◌, ◌-◌, ◌+◌, ◌≤◌, ◌<◌, ℕ, Bool, true, false, nat_eq, List, [], ◌∷◌, ◌++◌, length, take, drop, sym, ap, refl, arith, chars, encode_utf8_all, Option, Some, None, subst}
+use Rattle.std.proofs.Common.{◌≡◌, ◌∙◌, ◌-◌, ℕ, Bool, true, false, List, ◌++◌, length, take, drop, sym, ap, refl, arith, chars, encode_utf8_all, None, subst}
 use Rattle.std.specs.Str.{IsUtf8}
 use Rattle.std.specs.Str.Pattern.{FindsTextPrefix, FindsTextSuffix, StripsPrefix, StripsSuffix}
 use Rattle.std.specs.Cmp.Lexicographic.{bytes_decides}
 use Rattle.std.proofs.lemmas.Str.{chars-append, encodes-append, encodes-chars, IsUtf8-take}
-use Rattle.std.proofs.lemmas.List.{take-append-drop, length-append, take_at, drop_at}
+use Rattle.std.proofs.lemmas.List.{take-append-drop, length-append}
 use Rattle.std.proofs.Math.Seq.{take-append_seam, drop-append_seam}
 use Rattle.py_text.specs.Affixes.{same, without_prefix, without_suffix}
 
@@ -53,15 +53,15 @@ spelt S a b u e = sym (encodes-chars S u) ∙ ap encode_utf8_all e ∙ encodes-a
 
 pub no_prefix : (P S : List ℕ) → IsUtf8 P → IsUtf8 S → FindsTextPrefix P S None → chars S ≡ without_prefix (chars P) (chars S)
 no_prefix P S u v h = sym (prefix_kept (chars P) (chars S) (same (take (length (chars P)) (chars S)) (chars P)) refl (λ e.
-  let front : take (length (chars P)) (chars S) ≡ chars P = (bytes_decides (take (length (chars P)) (chars S)) (chars P)).0 e in
-  let parts : chars S ≡ chars P ++ drop (length (chars P)) (chars S) = sym (take-append-drop (length (chars P)) (chars S)) ∙ ap (λ (l : List ℕ). l ++ drop (length (chars P)) (chars S)) front in
-  let bytes : S ≡ P ++ encode_utf8_all (drop (length (chars P)) (chars S)) = spelt S (chars P) (drop (length (chars P)) (chars S)) v parts ∙ ap (λ (l : List ℕ). l ++ encode_utf8_all (drop (length (chars P)) (chars S))) (encodes-chars P u) in
-  h (encode_utf8_all (drop (length (chars P)) (chars S))) bytes))
+    let front : take (length (chars P)) (chars S) ≡ chars P = (bytes_decides (take (length (chars P)) (chars S)) (chars P)).0 e in
+    let parts : chars S ≡ chars P ++ drop (length (chars P)) (chars S) = sym (take-append-drop (length (chars P)) (chars S)) ∙ ap (λ (l : List ℕ). l ++ drop (length (chars P)) (chars S)) front in
+    let bytes : S ≡ P ++ encode_utf8_all (drop (length (chars P)) (chars S)) = spelt S (chars P) (drop (length (chars P)) (chars S)) v parts ∙ ap (λ (l : List ℕ). l ++ encode_utf8_all (drop (length (chars P)) (chars S))) (encodes-chars P u) in
+    h (encode_utf8_all (drop (length (chars P)) (chars S))) bytes))
 
 pub no_suffix : (P S : List ℕ) → IsUtf8 P → IsUtf8 S → FindsTextSuffix P S None → chars S ≡ without_suffix (chars P) (chars S)
 no_suffix P S u v h = sym (suffix_kept (chars P) (chars S) (same (drop (length (chars S) - length (chars P)) (chars S)) (chars P)) refl (λ e.
-  let n = length (chars S) - length (chars P) in
-  let back : drop n (chars S) ≡ chars P = (bytes_decides (drop n (chars S)) (chars P)).0 e in
-  let parts : chars S ≡ take n (chars S) ++ chars P = sym (take-append-drop n (chars S)) ∙ ap (λ (l : List ℕ). take n (chars S) ++ l) back in
-  let bytes : S ≡ encode_utf8_all (take n (chars S)) ++ P = spelt S (take n (chars S)) (chars P) v parts ∙ ap (λ (l : List ℕ). encode_utf8_all (take n (chars S)) ++ l) (encodes-chars P u) in
-  h (encode_utf8_all (take n (chars S))) bytes))
+    let n = length (chars S) - length (chars P) in
+    let back : drop n (chars S) ≡ chars P = (bytes_decides (drop n (chars S)) (chars P)).0 e in
+    let parts : chars S ≡ take n (chars S) ++ chars P = sym (take-append-drop n (chars S)) ∙ ap (λ (l : List ℕ). take n (chars S) ++ l) back in
+    let bytes : S ≡ encode_utf8_all (take n (chars S)) ++ P = spelt S (take n (chars S)) (chars P) v parts ∙ ap (λ (l : List ℕ). encode_utf8_all (take n (chars S)) ++ l) (encodes-chars P u) in
+    h (encode_utf8_all (take n (chars S))) bytes))

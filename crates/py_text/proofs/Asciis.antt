@@ -1,5 +1,5 @@
 -- Texts whose code points are below 128.
-use Rattle.std.proofs.Common.{◌≡◌, ◌∙◌, ◌<◌, ◌-◌, ℕ, suc, zero, true, Bool, ◌&&◌, nat_lt, List, [], ◌∷◌, ◌++◌, take, drop, length, refl, arith, sym, ap, get_or, chars, encode_utf8_all, slice_range}
+use Rattle.std.proofs.Common.{◌≡◌, ◌∙◌, ◌<◌, ◌-◌, ℕ, suc, zero, true, nat_lt, List, [], ◌∷◌, ◌++◌, take, drop, length, refl, arith, sym, ap, get_or, chars, encode_utf8_all, slice_range}
 use Rattle.std.proofs.lemmas.Bool.Decides.{nat_tests}
 use Rattle.std.specs.Str.{IsAscii, IsUtf8}
 use Rattle.std.proofs.lemmas.Str.{IsAscii-take, IsAscii-drop, IsAscii-append, encodes-IsAscii, encodes-chars}

@@ -1,5 +1,6 @@
 pub mod AffixLaws
 pub mod Asciis
+pub mod Cursors
 pub mod Points
 pub mod Repeats
 pub mod SliceLaws

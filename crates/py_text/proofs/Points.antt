@@ -3,9 +3,10 @@ use Rattle.std.proofs.Common.{◌≡◌, ℕ, ◌+◌, ◌-◌, ◌<◌, ◌≤�
 use Rattle.std.proofs.lemmas.Bool.Decides.{nat_tests}
 use Rattle.std.specs.Char.{encode_utf8, len_utf8, IsScalar}
 use Rattle.std.specs.Str.{chars, IsUtf8, encode_utf8_all, all_scalars, IsCharBoundary, IsAscii}
-use Rattle.std.specs.Str.Iter.{chars_steps}
+use Rattle.std.specs.Prelude.{IfSome}
+use Rattle.std.specs.Str.Iter.{chars_steps, chars_steps_back}
 use Rattle.std.specs.declared.str.Chars.{Chars}
-use Rattle.std.proofs.lemmas.Str.{length-encode, len_utf8_bounds, encodes-chars, chars-append, chars_past_char, IsUtf8-past_char, IsUtf8-append, cons_from_encodes, IsUtf8-encode, IsCharBoundary-at_seam, chars-nil, IsUtf8-nil}
+use Rattle.std.proofs.lemmas.Str.{length-encode, len_utf8_bounds, encodes-chars, chars-append, chars_past_char, IsUtf8-past_char, IsUtf8-append, cons_from_encodes, IsUtf8-encode, IsUtf8-take, IsCharBoundary-at_seam, chars-nil, IsUtf8-nil}
 use Rattle.std.proofs.Math.Seq.{take-append_seam, drop-append_seam}
 use Rattle.std.proofs.lemmas.List.{append-nil}
 use Rattle.std.specs.Cmp.Lexicographic.{pointwise, bytes_decides}
@@ -141,3 +142,51 @@ pub ascii_marked : (bs xs : List ℕ) (n : ℕ) → bs ≡ xs → all_ascii xs �
 ascii_marked bs xs n e h l =
     let p : chars bs ≡ xs = ap chars e ∙ chars_ascii xs h in
     record { marked = sym (ap all_ascii p ∙ h); counted = l ∙ sym (ap length p) }
+
+-- rest stands before the last k code points of s
+pub record WalkedBack (s rest : List ℕ) (k : ℕ) : Type 0 where
+  pub back : List ℕ
+  pub parts : s ≡ rest ++ back
+  pub rest_utf8 : IsUtf8 rest
+  pub back_utf8 : IsUtf8 back
+  pub count : length (chars back) ≡ k
+
+pub back_begins : (s : List ℕ) → IsUtf8 s → WalkedBack s s 0
+back_begins s u = record { back = []; parts = sym (append-nil s); rest_utf8 = u; back_utf8 = IsUtf8-nil; count = ap length chars-nil }
+
+back_spelled : (s rest : List ℕ) (k : ℕ) (w : WalkedBack s rest k) → chars s ≡ chars rest ++ chars w.back
+back_spelled s rest k w = ap chars w.parts ∙ chars-append rest w.back w.rest_utf8
+
+front_is_utf8 : (bs rest : List ℕ) (c : ℕ) → IsScalar c → IsUtf8 bs → bs ≡ rest ++ encode_utf8 c → IsUtf8 rest
+front_is_utf8 bs rest c s u e =
+    let part : take (length rest) bs ≡ rest = ap (take (length rest)) e ∙ take-append_seam rest (encode_utf8 c) in
+    subst IsUtf8 part (IsUtf8-take bs (length rest) u (IsCharBoundary-at_seam bs rest (encode_utf8 c) e (IsUtf8-encode c s)))
+
+pub back_steps : (s : List ℕ) (a b : Chars) (r : Option ℕ) (k : ℕ) → WalkedBack s a.rest.now k → k < length (chars s) → chars_steps_back a r b → IfSome r IsScalar → WalkedBack s b.rest.now (k + 1)
+back_steps s a b None k w lt h t = absurd (omega (arith, w.count, no_chars a.rest.now h.0, ap length (back_spelled s a.rest.now k w), length-append (chars a.rest.now) (chars w.back)))
+back_steps s a b (Some c) k w lt h t =
+    let one = IsUtf8-encode c t in record {
+      back = encode_utf8 c ++ w.back;
+      parts = w.parts ∙ ap (λ r. r ++ w.back) h ∙ append_assoc b.rest.now (encode_utf8 c) w.back;
+      rest_utf8 = front_is_utf8 a.rest.now b.rest.now c t w.rest_utf8 h;
+      back_utf8 = IsUtf8-append (encode_utf8 c) w.back one w.back_utf8;
+      count = omega (arith, w.count, ap length (chars-append (encode_utf8 c) w.back one), length-append (chars (encode_utf8 c)) (chars w.back), ap length (one_scalar c t));
+    }
+
+pub back_place : (s rest : List ℕ) (k : ℕ) → WalkedBack s rest k → IsCharBoundary s (length rest)
+back_place s rest k w = IsCharBoundary-at_seam s rest w.back w.parts w.back_utf8
+
+back_count : (s rest : List ℕ) (k : ℕ) (w : WalkedBack s rest k) → length (chars s) - k ≡ length (chars rest)
+back_count s rest k w = omega (arith, w.count, ap length (back_spelled s rest k w), length-append (chars rest) (chars w.back))
+
+pub back_before : (s rest : List ℕ) (k : ℕ) → WalkedBack s rest k → chars (take (length rest) s) ≡ take (length (chars s) - k) (chars s)
+back_before s rest k w =
+    let bytes : take (length rest) s ≡ rest = ap (take (length rest)) w.parts ∙ take-append_seam rest w.back in
+    let points : take (length (chars rest)) (chars s) ≡ chars rest = ap (take (length (chars rest))) (back_spelled s rest k w) ∙ take-append_seam (chars rest) (chars w.back) in
+    ap chars bytes ∙ sym (ap (λ n. take n (chars s)) (back_count s rest k w) ∙ points)
+
+pub back_after : (s rest : List ℕ) (k : ℕ) → WalkedBack s rest k → chars (drop (length rest) s) ≡ drop (length (chars s) - k) (chars s)
+back_after s rest k w =
+    let bytes : drop (length rest) s ≡ w.back = ap (drop (length rest)) w.parts ∙ drop-append_seam rest w.back in
+    let points : drop (length (chars rest)) (chars s) ≡ chars w.back = ap (drop (length (chars rest))) (back_spelled s rest k w) ∙ drop-append_seam (chars rest) (chars w.back) in
+    ap chars bytes ∙ sym (ap (λ n. drop n (chars s)) (back_count s rest k w) ∙ points)

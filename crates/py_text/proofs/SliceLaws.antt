@@ -1,12 +1,12 @@
 -- The places of a slice, and the items that stand there.
-use Rattle.std.proofs.Common.{◌≡◌, ◌∙◌, ◌+◌, ◌-◌, ◌<◌, ◌≤◌, ◌^◌, min, ℕ, zero, suc, Bool, true, false, nat_lt, ℤ, pos, negsuc, List, [], ◌∷◌, ◌++◌, Option, Some, length, take, drop, reverse, get_or, slice_range, sym, ap, refl, arith, inl, inr}
+use Rattle.std.proofs.Common.{◌≡◌, ◌∙◌, ◌+◌, ◌-◌, ◌<◌, ◌≤◌, min, ℕ, zero, suc, Bool, true, false, nat_lt, ℤ, pos, negsuc, List, [], ◌∷◌, ◌++◌, Option, length, take, drop, reverse, get_or, slice_range, sym, ap, refl, arith, inl, inr}
 use Rattle.std.specs.Prelude.{◌+ℤ◌, neg_ℤ, int_lt}
 use Rattle.std.specs.List.{filter_map}
 use Rattle.std.proofs.lemmas.Bool.{cases_lt}
 use Rattle.std.proofs.lemmas.Bool.Decides.{nat_tests}
 use Rattle.std.proofs.lemmas.Int.{ints}
 use Rattle.std.proofs.lemmas.List.{drop_more, take_more, take-take, drop-take, drop-drop, drop_all, length-take, length-drop, length-reverse, reverse-append, get_or-drop}
-use Rattle.py_text.specs.Slices.{item_at, item_of, end_of, goes_on, places_from, places_of, slice_of, every}
+use Rattle.py_text.specs.Slices.{item_at, end_of, goes_on, places_from, slice_of, every}
 use Rattle.py_text.proofs.Asciis.{item_there}
 use Rattle.py_text.proofs.Strides.{every_on, drop-reverse}
 
@@ -30,11 +30,11 @@ range_last L a b h i =
 -- a slice without its first items, and without its last ones
 pub drop_range : (L : List ℕ) (k a b : ℕ) → drop k (slice_range L a b) ≡ slice_range L (a + k) b
 drop_range L k a b = elim (cases_lt (b - a) k) [
-  inl h ↦ drop_all k (slice_range L a b) (omega (arith, length-take (b - a) (drop a L))) ∙ sym (no_range L (a + k) b (omega arith))
+  | inl h ↦ drop_all k (slice_range L a b) (omega (arith, length-take (b - a) (drop a L))) ∙ sym (no_range L (a + k) b (omega arith))
   | inr h ↦
-    ap (λ n. drop k (take n (drop a L))) {x = b - a} {y = k + (b - (a + k))} (omega arith)
-    ∙ drop-take k (b - (a + k)) (drop a L)
-    ∙ ap (take (b - (a + k))) (drop-drop k a L)
+      ap (λ n. drop k (take n (drop a L))) {x = b - a} {y = k + (b - (a + k))} (omega arith)
+      ∙ drop-take k (b - (a + k)) (drop a L)
+      ∙ ap (take (b - (a + k))) (drop-drop k a L)
 ]
 
 pub take_range : (L : List ℕ) (k a b : ℕ) → b ≤ length L → take (length (slice_range L a b) - k) (slice_range L a b) ≡ slice_range L a (b - k)
@@ -89,15 +89,15 @@ below_all (suc n) m (suc s) j = refl
 -- one step down from the place before the a-th
 step_down : (n m s a : ℕ) → places_from n (negsuc m) (one_before s) (pos a +ℤ negsuc m) ≡ places_from n (negsuc m) (one_before s) (one_before (suc a - suc m))
 step_down n m s a = elim (cases_lt a m) [
-  inl h ↦
-    let under : pos a +ℤ negsuc m ≡ negsuc (m - a) = omega (arith, ints) in
-    let none : suc a - suc m ≡ 0 = omega arith in
-    ap (places_from n (negsuc m) (one_before s)) under ∙ below_all n m s (m - a) ∙ sym (ap (λ d. places_from n (negsuc m) (one_before s) (one_before d)) none ∙ below_all n m s 0)
+  | inl h ↦
+      let under : pos a +ℤ negsuc m ≡ negsuc (m - a) = omega (arith, ints) in
+      let none : suc a - suc m ≡ 0 = omega arith in
+      ap (places_from n (negsuc m) (one_before s)) under ∙ below_all n m s (m - a) ∙ sym (ap (λ d. places_from n (negsuc m) (one_before s) (one_before d)) none ∙ below_all n m s 0)
   | inr h ↦ ap (places_from n (negsuc m) (one_before s)) (stepped a m h)
 ] where
   stepped : (a m : ℕ) → m ≤ a → pos a +ℤ negsuc m ≡ one_before (suc a - suc m)
   stepped a m h = elim (cases_lt m a) [
-    inl lt ↦ let e : suc a - suc m ≡ suc (a - suc m) = omega arith in sym (ap one_before e ∙ omega (arith, ints))
+    | inl lt ↦ let e : suc a - suc m ≡ suc (a - suc m) = omega arith in sym (ap one_before e ∙ omega (arith, ints))
     | inr ge ↦ let e : suc a - suc m ≡ 0 = omega arith in sym (ap one_before e ∙ omega (arith, ints))
   ]
 
@@ -133,14 +133,14 @@ every_far k j (x ∷ xs) h i p q =
 
 pub every_cut : (k j : ℕ) (L : List ℕ) → 1 ≤ k → 1 ≤ j → length L ≤ j → every (min k j) L ≡ every k L
 every_cut k j L h i p = elim (cases_lt k j) [
-  inl lt ↦ ap (λ n. every n L) {x = min k j} {y = k} (omega arith)
+  | inl lt ↦ ap (λ n. every n L) {x = min k j} {y = k} (omega arith)
   | inr ge ↦ ap (λ n. every n L) {x = min k j} {y = j} (omega arith) ∙ every_far j k L i h p (omega arith)
 ]
 
 -- where the beginning is past the end
 pub range_cut : (L : List ℕ) (a b : ℕ) → slice_range L (min a b) b ≡ slice_range L a b
 range_cut L a b = elim (cases_lt b a) [
-  inl h ↦ no_range L (min a b) b (omega arith) ∙ sym (no_range L a b (omega arith))
+  | inl h ↦ no_range L (min a b) b (omega arith) ∙ sym (no_range L a b (omega arith))
   | inr h ↦ ap (λ n. slice_range L n b) {x = min a b} {y = a} (omega arith)
 ]
 

@@ -1,11 +1,11 @@
 -- Every so many items of a list.
-use Rattle.std.proofs.Common.{◌≡◌, ◌∙◌, ◌+◌, ◌-◌, ◌<◌, ◌≤◌, min, ℕ, zero, suc, List, [], ◌∷◌, ◌++◌, Option, Some, length, take, drop, reverse, sym, ap, refl, append_assoc, append-nil, chars, encode_utf8, arith, inl, inr, subst}
+use Rattle.std.proofs.Common.{◌≡◌, ◌∙◌, ◌-◌, ◌<◌, ◌≤◌, min, ℕ, zero, suc, List, [], ◌∷◌, ◌++◌, Some, length, take, drop, reverse, sym, ap, refl, append_assoc, append-nil, chars, encode_utf8, arith, inl, inr, subst}
 use Rattle.std.proofs.lemmas.Bool.{cases_lt}
-use Rattle.std.proofs.lemmas.List.{reverse-append, length-reverse, length-take, length-drop, take-append-drop, drop_at, drop_all, take_at, drop_min, nil_from_length}
+use Rattle.std.proofs.lemmas.List.{reverse-append, length-reverse, length-drop, take-append-drop, drop_at, drop_all, drop_min, nil_from_length}
 use Rattle.std.specs.Prelude.{slice_get}
 use Rattle.std.specs.Char.{IsScalar}
 use Rattle.std.specs.Str.{IsUtf8}
-use Rattle.std.proofs.lemmas.Str.{chars-nil, chars-append, chars_past_char, IsUtf8-encode, IsUtf8-take, IsCharBoundary-at_seam, IsUtf8-past_char}
+use Rattle.std.proofs.lemmas.Str.{chars-nil, chars-append, chars_past_char, IsUtf8-encode, IsUtf8-take, IsCharBoundary-at_seam}
 use Rattle.std.proofs.Math.Seq.{take-append_seam}
 use Rattle.py_text.specs.Slices.{every, every_after}
 use Rattle.py_text.proofs.Points.{one_scalar}

@@ -1,4 +1,5 @@
 pub mod Affixes
+pub mod Handed
 pub mod Iteration
 pub mod Mark
 pub mod Slices

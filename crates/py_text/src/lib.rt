@@ -2,6 +2,7 @@
 #![tactic(auto)]
 
 mod bytes;
+mod iterator;
 mod list;
 mod order;
 mod shared;
@@ -11,6 +12,7 @@ mod text;
 mod walk;
 
 pub use bytes::PyBytes;
+pub use iterator::{IterState, PyStrIterator};
 pub use list::{Partition, TextList};
 pub use shared::PyStrRef;
 pub use text::PyStr;

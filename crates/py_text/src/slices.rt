@@ -19,7 +19,7 @@ impl PyStr {
         if self.is_ascii() {
             char::from(self.as_str().as_bytes()[index])
         } else {
-            walk::char_at(self.as_str(), index)
+            walk::char_at(self.as_str(), self.len(), index)
         }
     }
 

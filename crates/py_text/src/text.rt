@@ -1,6 +1,7 @@
 //! A text: its code points, their count, and whether all are ASCII.
 
-ghost use Rattle.std.specs.Prelude.{◌≡◌, ◌≤◌, ◌==◌, List, [], ◌∷◌, ◌++◌, length, chars, encode_utf8_all, string_bytes, slice_range, IfOk, OnOk, OnErr, IsOkUnless, true, All, ◌<◌};
+ghost use Rattle.std.specs.Prelude.{◌≡◌, ◌≤◌, ◌==◌, List, [], ◌∷◌, ◌++◌, length, drop, chars, encode_utf8_all, string_bytes, slice_range, IfOk, OnOk, OnErr, IsOkUnless, true, All, ◌<◌};
+ghost use Rattle.std.specs.Str.{IsCharBoundary};
 ghost use Rattle.py_text.specs.Mark.{all_ascii};
 
 use crate::walk;
@@ -127,13 +128,31 @@ impl PyStr {
         self.ascii
     }
 
-    /// The code points of the range, lent.
+    /// The code points of the range, lent. On an ASCII text nothing is walked over.
     pub fn get_chars(&self, range: Range<usize>) -> &str
         requires order { range.start ≤ range.end }
         requires inside { range.end ≤ length self.now }
         ensures { chars result.now ≡ slice_range self.now range.start range.end }
     {
-        walk::part_of(self.as_str(), range.start, range.end)
+        let text = self.as_str();
+        if self.is_ascii() {
+            &text[range.start..range.end]
+        } else {
+            walk::part_of(text, self.len(), range.start, range.end)
+        }
+    }
+
+    /// How many bytes the first `n` code points take. On an ASCII text nothing is walked over.
+    pub(crate) fn byte_place(&self, n: usize) -> usize
+        requires { n ≤ length self.now }
+        ensures place { IsCharBoundary (encode_utf8_all self.now) result }
+        ensures after { chars (drop result (encode_utf8_all self.now)) ≡ drop n self.now }
+    {
+        if self.is_ascii() {
+            n
+        } else {
+            walk::offset_in(self.as_str(), self.len(), n)
+        }
     }
 
     /// The same text, copied.

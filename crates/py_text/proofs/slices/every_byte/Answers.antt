@@ -1,4 +1,4 @@
-use Rattle.std.proofs.Common.{rules, ◌≡◌, ◌∙◌, ap, sym, min, length}
+use Rattle.std.proofs.Common.{◌∙◌, ap, sym}
 use Rattle.py_text.specs.Mark.{all_ascii}
 use Rattle.py_text.proofs.Strides.{byte_taken}
 use Rattle.py_text.proofs.Asciis.{ascii_drop, ascii_pushed}

@@ -1,4 +1,4 @@
-use Rattle.std.proofs.Common.{rules, ◌≡◌, ◌∙◌, ◌-◌, ap, sym, length}
+use Rattle.std.proofs.Common.{◌∙◌, ◌-◌, ap, sym, length}
 use Rattle.py_text.specs.Mark.{all_ascii}
 use Rattle.py_text.proofs.Strides.{byte_back}
 use Rattle.py_text.proofs.Asciis.{ascii_take, ascii_pushed}

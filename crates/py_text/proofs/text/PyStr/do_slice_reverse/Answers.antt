@@ -1,4 +1,4 @@
-use Rattle.std.proofs.Common.{◌∙◌, reverse, slice_range}
+use Rattle.std.proofs.Common.{reverse, slice_range}
 use Rattle.py_text.proofs.Strides.{every_one}
 use Rattle.py_text.proofs.text.PyStr.do_slice_reverse.Goals as goal
 

@@ -1,5 +1,4 @@
-use Rattle.std.proofs.Common.{◌≡◌, ◌∙◌, ap, sym, slice_range}
-use Rattle.py_text.specs.Slices.{every}
+use Rattle.std.proofs.Common.{sym, slice_range}
 use Rattle.py_text.proofs.Strides.{every_one}
 use Rattle.py_text.proofs.Asciis.{ascii_part, ascii_range}
 use Rattle.py_text.proofs.text.PyStr.do_stepped_slice.Goals as goal

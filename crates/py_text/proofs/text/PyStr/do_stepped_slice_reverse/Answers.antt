@@ -1,4 +1,4 @@
-use Rattle.std.proofs.Common.{◌≡◌, ◌∙◌, ap, sym, slice_range}
+use Rattle.std.proofs.Common.{sym}
 use Rattle.py_text.proofs.Asciis.{ascii_part, ascii_range}
 use Rattle.py_text.proofs.text.PyStr.do_stepped_slice_reverse.Goals as goal
 

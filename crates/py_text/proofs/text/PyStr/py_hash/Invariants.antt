@@ -1,4 +1,4 @@
-use Rattle.std.proofs.Common.{◌≡◌, take, encode_utf8_all}
+use Rattle.std.proofs.Common.{◌≡◌, take}
 use Rattle.std.specs.Prelude.{bit_xor, fold}
 use Rattle.py_text.specs.TextHash.{mixed}
 use Rattle.py_text.proofs.text.PyStr.py_hash.Given as goal

@@ -1,4 +1,3 @@
-use Rattle.std.proofs.Common.{◌≡◌, ◌∙◌, ap}
 use Rattle.py_text.proofs.AffixLaws.{stripped_prefix, no_prefix}
 use Rattle.py_text.proofs.text.PyStr.removeprefix.Goals as goal
 

@@ -1,4 +1,3 @@
-use Rattle.std.proofs.Common.{◌≡◌, ◌∙◌, ap}
 use Rattle.py_text.proofs.AffixLaws.{stripped_suffix, no_suffix}
 use Rattle.py_text.proofs.text.PyStr.removesuffix.Goals as goal
 

@@ -1,4 +1,4 @@
-use Rattle.std.proofs.Common.{rules, ◌≡◌, ◌^◌, ◌-◌, arith}
+use Rattle.std.proofs.Common.{rules, ◌^◌, ◌-◌, arith}
 use Rattle.py_text.proofs.SliceLaws.{slice_up}
 use Rattle.py_text.proofs.text.PyStr.taken_forward.Goals as goal
 
