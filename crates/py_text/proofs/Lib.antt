@@ -4,4 +4,4 @@ pub mod Cursors
 pub mod Points
 pub mod Repeats
 pub mod SliceLaws
-pub mod Strides
+pub mod StrideLaws

@@ -8,7 +8,7 @@ use Rattle.std.proofs.lemmas.Int.{ints}
 use Rattle.std.proofs.lemmas.List.{drop_more, take_more, take-take, drop-take, drop-drop, drop_all, length-take, length-drop, length-reverse, reverse-append, get_or-drop}
 use Rattle.py_text.specs.Slices.{item_at, end_of, goes_on, places_from, slice_of, every}
 use Rattle.py_text.proofs.Asciis.{item_there}
-use Rattle.py_text.proofs.Strides.{every_on, drop-reverse}
+use Rattle.py_text.proofs.StrideLaws.{every_on, drop-reverse}
 
 -- a slice that has no item
 pub no_range : (L : List ℕ) (a b : ℕ) → b ≤ a → slice_range L a b ≡ []

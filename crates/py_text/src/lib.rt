@@ -7,6 +7,8 @@ mod list;
 mod order;
 mod shared;
 mod slices;
+mod strides;
+mod subscript;
 mod sums;
 mod text;
 mod walk;

@@ -1,5 +1,5 @@
 use Rattle.std.proofs.Common.{sym, slice_range}
-use Rattle.py_text.proofs.Strides.{every_one}
+use Rattle.py_text.proofs.StrideLaws.{every_one}
 use Rattle.py_text.proofs.Asciis.{ascii_part, ascii_range}
 use Rattle.py_text.proofs.text.PyStr.do_stepped_slice.Goals as goal
 

@@ -3,9 +3,9 @@ use Rattle.std.specs.Str.Iter.{chars_rest}
 use Rattle.std.specs.Char.{IsScalar}
 use Rattle.std.proofs.lemmas.Str.{IsUtf8-past_char, IsUtf8-string_bytes}
 use Rattle.py_text.specs.Slices.{every}
-use Rattle.py_text.proofs.Strides.{char_taken, char_passed, begun, ended, pushed}
-use Rattle.py_text.proofs.slices.every_char.Goals as goal
-use Rattle.py_text.proofs.slices.every_char.Goals.{then-skip-eq0+in_ok-push, else-skip-eq0}
+use Rattle.py_text.proofs.StrideLaws.{char_taken, char_passed, begun, ended, pushed}
+use Rattle.py_text.proofs.strides.every_char.Goals as goal
+use Rattle.py_text.proofs.strides.every_char.Goals.{then-skip-eq0+in_ok-push, else-skip-eq0}
 
 pub chars-init : goal.chars-init
 chars-init c = record {

@@ -1,13 +1,13 @@
-use Rattle.std.proofs.Common.{◌≡◌, ◌++◌, length, true}
+use Rattle.std.proofs.Common.{◌≡◌, ◌++◌, length, reverse, true}
 use Rattle.py_text.specs.Mark.{all_ascii}
 use Rattle.py_text.specs.Slices.{every}
-use Rattle.py_text.proofs.slices.every_byte.Given as goal
+use Rattle.py_text.proofs.strides.every_byte_back.Given as goal
 
 abbrev pub invariant-loop-byte : goal.invariant-loop-byte
 invariant-loop-byte l = record {
   ascii : all_ascii l.rest ≡ true;
   kept_ascii : all_ascii l.kept.items ≡ true;
-  sofar : l.kept.items ++ every l.step l.rest ≡ every l.step l.bytes;
+  sofar : l.kept.items ++ every l.step (reverse l.rest) ≡ every l.step (reverse l.bytes);
 }
 
 abbrev pub decreases-loop-byte : goal.decreases-loop-byte

@@ -2,7 +2,7 @@ use Rattle.std.proofs.Common.{◌≡◌, ◌++◌, ◌<◌, length, reverse, cha
 use Rattle.std.specs.Str.{IsUtf8}
 use Rattle.std.specs.Str.Iter.{chars_rest}
 use Rattle.py_text.specs.Slices.{every, every_after}
-use Rattle.py_text.proofs.slices.every_char_back.Given as goal
+use Rattle.py_text.proofs.strides.every_char_back.Given as goal
 
 abbrev pub invariant-chars : goal.invariant-chars
 invariant-chars l = record {

@@ -1,8 +1,8 @@
 use Rattle.std.proofs.Common.{◌∙◌, ◌-◌, ap, sym, length}
 use Rattle.py_text.specs.Mark.{all_ascii}
-use Rattle.py_text.proofs.Strides.{byte_back}
+use Rattle.py_text.proofs.StrideLaws.{byte_back}
 use Rattle.py_text.proofs.Asciis.{ascii_take, ascii_pushed}
-use Rattle.py_text.proofs.slices.every_byte_back.Goals as goal
+use Rattle.py_text.proofs.strides.every_byte_back.Goals as goal
 
 pub loop-byte-preserved : goal.loop-byte-preserved
 loop-byte-preserved c =

@@ -1,0 +1,79 @@
+//! Every so many items of a part of a text.
+
+ghost use Rattle.std.specs.Prelude.{◌≡◌, ◌≤◌, reverse, chars, true, IfOk, IsOkUnless};
+ghost use Rattle.py_text.specs.Mark.{all_ascii};
+ghost use Rattle.py_text.specs.Slices.{every};
+
+use crate::text::PyStr;
+use py_base::{PyError, PyResult};
+use std::alloc::Global;
+
+/// The first byte, and each that stands a multiple of `step` behind it.
+pub(crate) fn every_byte(alloc: Global, bytes: &[u8], step: usize) -> PyResult<PyStr>
+    requires forward { 1 ≤ step }
+    requires ascii { all_ascii bytes.now ≡ true }
+    ensures ok { IfOk result (λ made. made ≡ every step bytes.now) }
+    ensures err { IsOkUnless result PyError.NoMemory }
+{
+    let mut kept = Vec::with_capacity(alloc, bytes.len().div_ceil(step))?;
+    let mut rest = bytes;
+    while let Some(byte) = rest.first() {
+        kept.push(*byte)?;
+        rest = rest.split_at(step.min(rest.len())).1;
+    }
+    Ok(PyStr::new_ascii_unchecked(kept))
+}
+
+/// The last byte, and each that stands a multiple of `step` before it.
+pub(crate) fn every_byte_back(alloc: Global, bytes: &[u8], step: usize) -> PyResult<PyStr>
+    requires forward { 1 ≤ step }
+    requires ascii { all_ascii bytes.now ≡ true }
+    ensures ok { IfOk result (λ made. made ≡ every step (reverse bytes.now)) }
+    ensures err { IsOkUnless result PyError.NoMemory }
+{
+    let mut kept = Vec::with_capacity(alloc, bytes.len().div_ceil(step))?;
+    let mut rest = bytes;
+    while let Some(byte) = rest.last() {
+        kept.push(*byte)?;
+        rest = rest.split_at(rest.len().saturating_sub(step)).0;
+    }
+    Ok(PyStr::new_ascii_unchecked(kept))
+}
+
+/// The first character, and each that stands a multiple of `step` behind it.
+pub(crate) fn every_char(alloc: Global, part: &str, step: usize) -> PyResult<PyStr>
+    requires { 1 ≤ step }
+    ensures ok { IfOk result (λ made. made ≡ every step (chars part.now)) }
+    ensures err { IsOkUnless result PyError.NoMemory }
+{
+    let mut text = String::with_capacity(alloc, part.len().div_ceil(step))?;
+    let mut rest = part.chars();
+    let mut skip = 0;
+    'chars: while let Some(c) = rest.next() {
+        if skip == 0 {
+            text.push(c)?;
+            skip = step;
+        }
+        skip -= 1;
+    }
+    Ok(PyStr::from(text))
+}
+
+/// The last character, and each that stands a multiple of `step` before it.
+pub(crate) fn every_char_back(alloc: Global, part: &str, step: usize) -> PyResult<PyStr>
+    requires { 1 ≤ step }
+    ensures ok { IfOk result (λ made. made ≡ every step (reverse (chars part.now))) }
+    ensures err { IsOkUnless result PyError.NoMemory }
+{
+    let mut text = String::with_capacity(alloc, part.len().div_ceil(step))?;
+    let mut rest = part.chars();
+    let mut skip = 0;
+    'chars: while let Some(c) = rest.next_back() {
+        if skip == 0 {
+            text.push(c)?;
+            skip = step;
+        }
+        skip -= 1;
+    }
+    Ok(PyStr::from(text))
+}
