@@ -39,7 +39,7 @@ cursor_on text bs rest next place offset c w e r u h =
     }
 
 -- nothing stands at the end
-past_end : (L : List ℕ) (n : ℕ) → length L ≤ n → slice_get L n ≡ None
+pub past_end : (L : List ℕ) (n : ℕ) → length L ≤ n → slice_get L n ≡ None
 past_end [] n h = refl
 past_end (x ∷ xs) zero h = absurd (omega arith)
 past_end (x ∷ xs) (suc n) h = past_end xs n (omega arith)

@@ -5,3 +5,4 @@ pub mod Points
 pub mod Repeats
 pub mod SliceLaws
 pub mod StrideLaws
+pub mod TextLaws

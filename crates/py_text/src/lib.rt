@@ -3,6 +3,7 @@
 
 mod bytes;
 mod iterator;
+pub mod laws;
 mod list;
 mod order;
 mod shared;

@@ -1,0 +1,46 @@
+-- Laws of texts.
+use Rattle.std.specs.Prelude.{◌≡◌, ◌<◌, ◌≤◌, ◌≤ℤ◌, ◌↔◌, ◌≢◌, ℕ, ◌+◌, zero, suc, ℤ, pos, nat_eq, IsTrue, List, [], ◌∷◌, ◌++◌, length, drop, Option, Some, None}
+use Rattle.std.specs.Option.{option_to_list}
+use Rattle.std.specs.Cmp.Lexicographic.{pointwise, slice_cmp}
+use Rattle.std.specs.Ordering.{nat_cmp}
+use Rattle.std.specs.declared.cmp.Ordering.TheVariants.{Less}
+use Rattle.py_text.specs.Iteration.{Standing, still, next_of, after_next, placed}
+use Rattle.py_text.specs.Slices.{end_of, places_from, places_of}
+use Rattle.py_text.specs.TextHash.{text_hash}
+
+-- two texts are equal just where their lists are
+abbrev pub EqualAsLists : Type 0
+EqualAsLists = (a b : List ℕ) → IsTrue (pointwise nat_eq a b) ↔ (a ≡ b)
+
+-- the first code point that differs orders two texts
+abbrev pub OrderedByFirstDifference : Type 0
+OrderedByFirstDifference = (front xs ys : List ℕ) (c d : ℕ) → c < d → slice_cmp nat_cmp (front ++ c ∷ xs) (front ++ d ∷ ys) ≡ Less
+
+-- a text comes after what it begins with
+abbrev pub BeginningsFirst : Type 0
+BeginningsFirst = (front xs : List ℕ) (c : ℕ) → slice_cmp nat_cmp front (front ++ c ∷ xs) ≡ Less
+
+-- equal texts hash alike, under each seed
+abbrev pub EqualHashes : Type 0
+EqualHashes = (seed : ℕ) (a b : List ℕ) → IsTrue (pointwise nat_eq a b) → text_hash seed a ≡ text_hash seed b
+
+-- a sum is as long as both texts
+abbrev pub LengthOfSum : Type 0
+LengthOfSum = (a b : List ℕ) → length (a ++ b) ≡ length a + length b
+
+-- what so many calls of `next` give
+abbrev pub given : ℕ → Option Standing → List ℕ
+given zero it = []
+given (suc n) it = option_to_list (next_of it) ++ given n (after_next it)
+
+-- an iterator gives the code points from its place on, and then none for good
+abbrev pub GivesTheRest : Type 0
+GivesTheRest = (it : Option Standing) (n : ℕ) → length (still it) ≤ n → given n it ≡ still it
+
+-- an iterator that is put at the end of its text or past it has nothing left
+abbrev pub NothingPastTheEnd : Type 0
+NothingPastTheEnd = (s : Standing) (z : ℤ) → pos (length s.text) ≤ℤ z → still (placed z (Some s)) ≡ []
+
+-- an exhausted iterator stays exhausted
+abbrev pub StaysExhausted : Type 0
+StaysExhausted = (z : ℤ) → (next_of None ≡ None) × (after_next None ≡ None) × (placed z None ≡ None)
