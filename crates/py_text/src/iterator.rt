@@ -96,7 +96,7 @@ impl Model for PyStrIterator {
 
 /// What an iterator is, to be stored: its text and its place, in code points, or that it is
 /// exhausted.
-#[derive(Debug)]
+#[derive(Clone, Copy, Debug)]
 pub enum IterState<'a> {
     Active(&'a PyStrRef, usize),
     Exhausted,

@@ -11,6 +11,8 @@ mod slices;
 mod strides;
 mod subscript;
 mod sums;
+#[cfg(test)]
+mod tests;
 mod text;
 mod walk;
 

@@ -63,7 +63,7 @@ impl TextList {
 }
 
 /// A text in three parts: what stands before a separator, the separator, and what stands behind it.
-#[derive(Debug)]
+#[derive(Clone, Copy, Debug)]
 pub struct Partition<'a> {
     pub front: &'a str,
     pub mid: &'a str,

@@ -1,0 +1,4 @@
+//! Worked rows of texts, as Python answers them.
+
+mod sharing;
+mod slicing;
