@@ -3,8 +3,8 @@ use Rattle.std.proofs.Common.{◌≡◌, ◌∙◌, ◌+◌, ◌-◌, ◌≤◌,
 use Rattle.std.specs.Prelude.{slice_get, slice_range}
 use Rattle.std.specs.Char.{len_utf8}
 use Rattle.std.specs.Str.{IsUtf8, IsCharBoundary}
-use Rattle.std.proofs.lemmas.Str.{IsCharBoundary-past_char, IsCharBoundary-from_ascii, drop_past_char, chars_past_char, chars-nil}
-use Rattle.std.proofs.lemmas.List.{length-drop, drop-drop, nil_from_length}
+use Rattle.std.proofs.lemmas.Str.{IsCharBoundary-past_char, IsCharBoundary-from_ascii, drop_past_char, chars_past_char}
+use Rattle.std.proofs.lemmas.List.{length-drop, drop-drop}
 use Rattle.py_text.specs.Mark.{all_ascii}
 use Rattle.py_text.specs.Iteration.{IsCursor}
 use Rattle.py_text.proofs.Points.{is_ascii, chars_ascii}
@@ -43,11 +43,6 @@ pub past_end : (L : List ℕ) (n : ℕ) → length L ≤ n → slice_get L n ≡
 past_end [] n h = refl
 past_end (x ∷ xs) zero h = absurd (omega arith)
 past_end (x ∷ xs) (suc n) h = past_end xs n (omega arith)
-
-pub at_end : (text bs rest : List ℕ) (place offset : ℕ) → IsCursor text place offset → bs ≡ encode_utf8_all text → rest ≡ drop offset bs → length rest ≡ 0 → slice_get text place ≡ None
-at_end text bs rest place offset w e r n =
-    let none : drop place text ≡ [] = sym w.behind ∙ ap (λ (l : List ℕ). chars (drop offset l)) (sym e) ∙ sym (ap chars r) ∙ ap chars (nil_from_length rest n) ∙ chars-nil in
-    past_end text place (omega (arith, length-drop place text, ap length none))
 
 -- on an ASCII text a place is its byte
 pub ascii_boundary : (bytes L : List ℕ) (n : ℕ) → bytes ≡ encode_utf8_all L → all_ascii L ≡ true → n ≤ length L → IsCharBoundary bytes n

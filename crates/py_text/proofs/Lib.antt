@@ -1,6 +1,7 @@
 pub mod AffixLaws
 pub mod Asciis
 pub mod Cursors
+pub mod PlaceLaws
 pub mod Points
 pub mod Repeats
 pub mod SliceLaws

@@ -9,8 +9,6 @@ use Rattle.std.specs.declared.str.Chars.{Chars}
 use Rattle.std.proofs.lemmas.Str.{length-encode, len_utf8_bounds, encodes-chars, chars-append, chars_past_char, IsUtf8-past_char, IsUtf8-append, cons_from_encodes, IsUtf8-encode, IsUtf8-take, IsCharBoundary-at_seam, chars-nil, IsUtf8-nil}
 use Rattle.std.proofs.Math.Seq.{take-append_seam, drop-append_seam}
 use Rattle.std.proofs.lemmas.List.{append-nil}
-use Rattle.std.specs.Cmp.Lexicographic.{pointwise, bytes_decides}
-use Rattle.std.proofs.lemmas.Bool.Decides.{same_from_decides}
 use Rattle.std.proofs.lemmas.Str.Ascii.{IsAscii-nil, IsAscii-cons}
 use Rattle.std.proofs.lemmas.Str.{chars-IsAscii}
 use Rattle.py_text.specs.Mark.{all_ascii, IsMarked}
@@ -101,14 +99,6 @@ walked_after s rest k w =
     let bytes : drop (length s - length rest) s ≡ rest = rw (at_seam s rest k w, w.parts) (drop-append_seam w.front rest) in
     let points : drop k (chars s) ≡ chars rest = rw (spelled s rest k w, ← w.count) (drop-append_seam (chars w.front) (chars rest)) in
     ap chars bytes ∙ sym points
-
--- texts are equal just where their code points are
-pub same_by_points : (a b : List ℕ) → IsUtf8 a → IsUtf8 b → pointwise nat_eq a b ≡ pointwise nat_eq (chars a) (chars b)
-same_by_points a b u v =
-    same_from_decides (pointwise nat_eq a b) (pointwise nat_eq (chars a) (chars b)) (bytes_decides a b) (
-      (λ h. sym (encodes-chars a u) ∙ ap encode_utf8_all ((bytes_decides (chars a) (chars b)).0 h) ∙ encodes-chars b v),
-      (λ e. (bytes_decides (chars a) (chars b)).1 (ap chars e)),
-    )
 
 -- a text with another behind it
 pub appended : (old more new : List ℕ) → IsUtf8 old → new ≡ old ++ more → chars new ≡ chars old ++ chars more

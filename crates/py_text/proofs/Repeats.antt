@@ -1,5 +1,5 @@
--- A text repeated, and hashed byte by byte.
-use Rattle.std.proofs.Common.{◌≡◌, ◌∙◌, ◌+◌, ℕ, zero, suc, List, [], ◌∷◌, ◌++◌, sym, ap, refl, append_assoc, append-nil, chars, arith, true, ℤ, pos, negsuc, length}
+-- A text repeated.
+use Rattle.std.proofs.Common.{◌≡◌, ◌∙◌, ◌+◌, ℕ, zero, suc, List, [], ◌∷◌, ◌++◌, sym, ap, refl, append_assoc, append-nil, chars, arith, true, false, ◌<◌, ℤ, pos, negsuc, length, length-append}
 use Rattle.std.specs.Prelude.{int_le, ◌==◌}
 use Rattle.std.proofs.lemmas.Bool.Decides.{nat_tests}
 use Rattle.std.specs.Str.{IsUtf8}
@@ -37,3 +37,12 @@ times_nil (negsuc n) = refl
 pub times_empty : (v : ℤ) (L : List ℕ) → true ≡ (length L == 0) → [] ≡ times v L
 times_empty v [] h = times_nil v
 times_empty v (x ∷ xs) h = absurd (grind (arith, nat_tests))
+
+-- a number above 0 of copies of a text that is not empty is not empty
+some_copies : (n : ℕ) (L : List ℕ) → 0 < n → 0 < length L → copies n L ≡ [] → ⊥
+some_copies zero L h i e = omega arith
+some_copies (suc n) L h i e = omega (arith, ap length e, length-append L (copies n L))
+
+pub times_some : (v : ℤ) (L : List ℕ) → int_le v (pos 0) ≡ false → false ≡ (length L == 0) → times v L ≡ [] → ⊥
+times_some (pos n) L h i e = some_copies n L (grind (arith, nat_tests)) (grind (arith, nat_tests)) e
+times_some (negsuc n) L h i e = absurd (cc)

@@ -100,11 +100,6 @@ at_place [] n x h = absurd (cc)
 at_place (y ∷ ys) zero x h = let e : y ≡ x = cc in ap (λ z. z ∷ ys) e
 at_place (y ∷ ys) (suc n) x h = ap (λ (l : List ℕ). y ∷ l) (at_place ys n x h)
 
-some_long : (L : List ℕ) (n x : ℕ) → slice_get L n ≡ Some x → n < length L
-some_long [] n x h = absurd (cc)
-some_long (y ∷ ys) zero x h = omega arith
-some_long (y ∷ ys) (suc n) x h = omega (arith, some_long ys n x h)
-
 pub last_place : (L : List ℕ) (x : ℕ) → slice_get L (length L - 1) ≡ Some x → L ≡ take (length L - 1) L ++ x ∷ []
 last_place L x h = at_place L (length L - 1) x h ∙ ap (λ (l : List ℕ). take (length L - 1) L ++ x ∷ l) (drop_all (suc (length L - 1)) L (omega arith))
 

@@ -1,14 +1,13 @@
 -- The laws of order, and of iterators.
 use Rattle.std.proofs.Common.{◌≡◌, ◌∙◌, ◌+◌, ◌<◌, ◌≤◌, ℕ, zero, suc, true, false, nat_lt, List, [], ◌∷◌, ◌++◌, length, drop, get_or, sym, ap, refl, arith, Option, Some, None, inl, inr}
 use Rattle.std.proofs.lemmas.Bool.{cases_lt}
-use Rattle.std.specs.Option.{option_to_list}
 use Rattle.std.specs.Cmp.Lexicographic.{slice_cmp}
 use Rattle.std.specs.Ordering.{nat_cmp, ordering_then}
 use Rattle.std.specs.declared.cmp.Ordering.{Ordering}
-use Rattle.std.specs.declared.cmp.Ordering.TheVariants.{Less, Equal, Greater}
+use Rattle.std.specs.declared.cmp.Ordering.TheVariants.{Less, Equal}
 use Rattle.std.proofs.lemmas.Bool.Decides.{nat_tests}
 use Rattle.std.proofs.lemmas.List.{drop_more, drop_all, length-drop, nil_from_length}
-use Rattle.py_text.specs.Iteration.{Standing, still, next_of, after_next}
+use Rattle.py_text.specs.Iteration.{Standing, still}
 use Rattle.py_text.specs.Laws.{given}
 use Rattle.py_text.proofs.Asciis.{item_there}
 use Rattle.py_text.proofs.Cursors.{past_end}

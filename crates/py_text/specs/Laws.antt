@@ -1,11 +1,11 @@
 -- Laws of texts.
-use Rattle.std.specs.Prelude.{◌≡◌, ◌<◌, ◌≤◌, ◌≤ℤ◌, ◌↔◌, ◌≢◌, ℕ, ◌+◌, zero, suc, ℤ, pos, nat_eq, IsTrue, List, [], ◌∷◌, ◌++◌, length, drop, Option, Some, None}
+use Rattle.std.specs.Prelude.{◌≡◌, ◌<◌, ◌≤◌, ◌≤ℤ◌, ◌↔◌, ◌≢◌, ℕ, ◌+◌, zero, suc, ℤ, pos, nat_eq, IsTrue, List, [], ◌∷◌, ◌++◌, length, Option, Some, None}
 use Rattle.std.specs.Option.{option_to_list}
 use Rattle.std.specs.Cmp.Lexicographic.{pointwise, slice_cmp}
 use Rattle.std.specs.Ordering.{nat_cmp}
 use Rattle.std.specs.declared.cmp.Ordering.TheVariants.{Less}
 use Rattle.py_text.specs.Iteration.{Standing, still, next_of, after_next, placed}
-use Rattle.py_text.specs.Slices.{end_of, places_from, places_of}
+use Rattle.py_text.specs.Slices.{places_from, start_of, stop_of}
 use Rattle.py_text.specs.TextHash.{text_hash}
 
 -- two texts are equal just where their lists are
@@ -44,3 +44,8 @@ NothingPastTheEnd = (s : Standing) (z : ℤ) → pos (length s.text) ≤ℤ z �
 -- an exhausted iterator stays exhausted
 abbrev pub StaysExhausted : Type 0
 StaysExhausted = (z : ℤ) → (next_of None ≡ None) × (after_next None ≡ None) × (placed z None ≡ None)
+
+-- a slice of a list of n items takes at most n places: to look for more gives no more
+abbrev pub NoMorePlaces : Type 0
+NoMorePlaces = (n more : ℕ) (start stop : Option ℤ) (step : ℤ) → step ≢ pos 0
+    → places_from (n + more) step (stop_of n step stop) (start_of n step start) ≡ places_from n step (stop_of n step stop) (start_of n step start)

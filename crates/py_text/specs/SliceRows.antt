@@ -1,6 +1,6 @@
 -- Worked rows of slices, sums and iterators, which compute.
 use Rattle.std.specs.Prelude.{◌≡◌, refl, pos, negsuc, [], ◌∷◌, codes, Some, None}
-use Rattle.py_text.specs.Affixes.{times, without_prefix, without_suffix}
+use Rattle.py_text.specs.Affixes.{times, without_prefix}
 use Rattle.py_text.specs.Iteration.{placed, still}
 use Rattle.py_text.specs.Slices.{item_of, places_of, slice_of, every}
 

@@ -34,12 +34,23 @@ abbrev pub places_from : ℕ → ℤ → ℤ → ℤ → List ℤ
 places_from zero step stop at = []
 places_from (suc n) step stop at = if goes_on step stop at then at ∷ places_from n step stop (at +ℤ step) else []
 
+-- where a slice of a list of n items begins: at its first item, or at its last one where the step is negative
+abbrev pub start_of : ℕ → ℤ → Option ℤ → ℤ
+start_of n step start =
+    if int_lt step (pos 0)
+    then end_of n (negsuc 0) (pos n +ℤ negsuc 0) (pos n +ℤ negsuc 0) start
+    else end_of n (pos 0) (pos n) (pos 0) start
+
+-- and where it stops: behind its last item, or before its first one where the step is negative
+abbrev pub stop_of : ℕ → ℤ → Option ℤ → ℤ
+stop_of n step stop =
+    if int_lt step (pos 0)
+    then end_of n (negsuc 0) (pos n +ℤ negsuc 0) (negsuc 0) stop
+    else end_of n (pos 0) (pos n) (pos n) stop
+
 -- the places that a slice of a list of n items takes, in their order, for a step that is not 0
 abbrev pub places_of : ℕ → Option ℤ → Option ℤ → ℤ → List ℤ
-places_of n start stop step =
-    if int_lt step (pos 0)
-    then places_from n step (end_of n (negsuc 0) (pos n +ℤ negsuc 0) (negsuc 0) stop) (end_of n (negsuc 0) (pos n +ℤ negsuc 0) (pos n +ℤ negsuc 0) start)
-    else places_from n step (end_of n (pos 0) (pos n) (pos n) stop) (end_of n (pos 0) (pos n) (pos 0) start)
+places_of n start stop step = places_from n step (stop_of n step stop) (start_of n step start)
 
 -- `L[start:stop:step]`: the items at these places
 abbrev pub slice_of : List ℕ → Option ℤ → Option ℤ → ℤ → List ℕ

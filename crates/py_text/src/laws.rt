@@ -1,6 +1,6 @@
 //! Laws of texts.
 
-ghost use Rattle.py_text.specs.Laws.{EqualAsLists, OrderedByFirstDifference, BeginningsFirst, EqualHashes, LengthOfSum, GivesTheRest, NothingPastTheEnd, StaysExhausted};
+ghost use Rattle.py_text.specs.Laws.{EqualAsLists, OrderedByFirstDifference, BeginningsFirst, EqualHashes, LengthOfSum, GivesTheRest, NothingPastTheEnd, StaysExhausted, NoMorePlaces};
 
 /// Two texts are equal just where their code points are.
 pub fn texts_equal_as_lists()
@@ -40,4 +40,9 @@ pub fn nothing_past_the_end()
 /// An exhausted iterator stays exhausted.
 pub fn exhausted_for_good()
     ensures { StaysExhausted }
+{}
+
+/// A slice takes at most as many places as the text has.
+pub fn slices_take_no_more_places()
+    ensures { NoMorePlaces }
 {}

@@ -46,7 +46,8 @@ impl PyStrRef {
         &self.shared
     }
 
-    /// Puts a text behind. Who else shares the text keeps it as it was.
+    /// Puts a text behind. Who else shares the text keeps it as it was: it is copied where it is shared,
+    /// and grows in place where it is not.
     ///
     /// # Errors
     ///
@@ -56,6 +57,9 @@ impl PyStrRef {
         ensures same { OnErr result (self.new ≡ self.old) }
         ensures err { IsOkUnless result PyError.NoMemory }
     {
+        if let Some(text) = Rc::get_mut(&mut self.shared) {
+            return text.append(other);
+        }
         let joined = self.shared.joined(alloc, other)?;
         self.shared = Rc::new(alloc, joined)?;
         Ok(())

@@ -1,6 +1,6 @@
 //! Texts joined and repeated, and what is left without a prefix or a suffix.
 
-ghost use Rattle.std.specs.Prelude.{◌≡◌, List, ◌++◌, chars, IfOk, IsOkUnless};
+ghost use Rattle.std.specs.Prelude.{◌≡◌, [], ◌++◌, chars, IsOk, IfOk, IsOkUnless};
 ghost use Rattle.py_text.specs.Affixes.{without_prefix, without_suffix, times, copies};
 
 use crate::text::PyStr;
@@ -42,6 +42,7 @@ impl PyStr {
     /// `NoMemory`, and no other.
     pub fn mul(&self, alloc: Global, value: isize) -> PyResult<PyStr>
         ensures ok { IfOk result (λ made. made ≡ times value self.now) }
+        ensures free { times value self.now ≡ [] → IsOk result }
         ensures err { IsOkUnless result PyError.NoMemory }
     {
         if value <= 0 || self.is_empty() {

@@ -20,7 +20,7 @@ pub(crate) fn offset_in(s: &str, count: usize, n: usize) -> usize
 }
 
 /// How many bytes the first `n` code points take.
-fn offset_of(s: &str, n: usize) -> usize
+pub(crate) fn offset_of(s: &str, n: usize) -> usize
     requires { n ≤ length (chars s.now) }
     ensures place { IsCharBoundary s.now result }
     ensures before { chars (take result s.now) ≡ take n (chars s.now) }
