@@ -1,8 +1,15 @@
 pub mod Affixes
+pub mod Blanks
+pub mod Cuts
 pub mod Handed
 pub mod Iteration
 pub mod Laws
+pub mod Lines
 pub mod Mark
+pub mod Search
+pub mod SearchRows
 pub mod SliceRows
 pub mod Slices
+pub mod Splits
 pub mod TextHash
+pub mod Window

@@ -1,6 +1,6 @@
 //! A list of texts, and the three parts of a text.
 
-ghost use Rattle.std.specs.Prelude.{◌≡◌, List, [], ◌∷◌, ◌++◌, length, slice_get, option_copied, OnOk, OnErr, IsOkUnless};
+ghost use Rattle.std.specs.Prelude.{◌≡◌, List, [], ◌∷◌, ◌++◌, length, reverse, slice_get, option_copied, OnOk, OnErr, IsOkUnless};
 
 use crate::text::PyStr;
 use py_base::{PyError, PyResult};
@@ -45,6 +45,13 @@ impl TextList {
             Ok(()) => Ok(()),
             Err(_) => Err(PyError::NoMemory),
         }
+    }
+
+    // Turns the list round.
+    pub(crate) fn reverse(&mut self)
+        ensures { self.new ≡ reverse self.old }
+    {
+        self.items.reverse();
     }
 
     /// How many texts there are.

@@ -1,0 +1,6 @@
+use Rattle.std.proofs.Common.{◌≡◌, ◌∙◌, ap, sym}
+use Rattle.py_text.proofs.PieceLaws.{mirror_of}
+use Rattle.py_text.proofs.pieces.rsplit_at.Goals as goal
+
+pub returns-clause-ok : goal.returns-clause-ok
+returns-clause-ok c = mirror_of _ _ _ c.in_ok-list.ensures.ok c.reverse.ensures

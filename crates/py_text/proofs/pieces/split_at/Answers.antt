@@ -1,0 +1,23 @@
+use Rattle.std.proofs.Common.{◌≡◌, ◌-◌, ◌∷◌, ◌++◌, [], List, ℕ, ◌∙◌, ap, sym, subst, suc, arith, chars, IfOk}
+use Rattle.py_text.proofs.PieceLaws.{Cutting, cutting_none, cutting_more, cutting_stops, cutting_ends}
+use Rattle.py_text.proofs.pieces.split_at.Goals as goal
+
+pub loop-left-init : goal.loop-left-init
+loop-left-init c = record { utf8 = c.utf8.text; cutting = rw c.new-list.ensures (cutting_none _ _ _) }
+
+pub loop-left-preserved : goal.loop-left-preserved
+loop-left-preserved c = record {
+  utf8 = c.in-Some.ensures.text.2;
+  cutting = cutting_more _ _ _ (chars c.in-Some.front.now) _ c.loop-left.list _ _ c.loop-left.left (c.loop-left.left - 1) c.requires (omega arith)
+      (c.in_ok-push-in-Some.ensures.ok ∙ ap (λ t. c.loop-left.list ++ t ∷ []) c.in_ok-copy_of-in-Some.ensures.ok) c.in-Some.ensures.cuts c.loop-left.invariant.cutting;
+}
+
+pub returns-in-None-clause-ok : goal.returns-in-None-clause-ok
+returns-in-None-clause-ok c =
+    let P : List (List ℕ) → Type 0 = λ l. IfOk c.finished.result (λ pieces. pieces ≡ l) in
+    subst P (cutting_stops _ _ _ _ _ _ c.in-None.ensures.cuts c.loop-left.invariant.cutting) c.finished.ensures.ok
+
+pub returns-clause-ok : goal.returns-clause-ok
+returns-clause-ok c =
+    let P : List (List ℕ) → Type 0 = λ l. IfOk c.finished-2.result (λ pieces. pieces ≡ l) in
+    subst P (cutting_ends _ _ _ _ _ _ (omega arith) c.loop-left.invariant.cutting) c.finished-2.ensures.ok

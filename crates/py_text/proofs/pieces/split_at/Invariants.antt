@@ -1,0 +1,12 @@
+use Rattle.std.proofs.Common.{chars}
+use denote.Shadow.{shadow}
+use denote.Text.{Utf8}
+use Rattle.py_text.specs.Cuts.{split}
+use Rattle.py_text.proofs.PieceLaws.{Cutting}
+use Rattle.py_text.proofs.pieces.split_at.Given as goal
+
+abbrev pub invariant-loop-left : goal.invariant-loop-left
+invariant-loop-left l = record { utf8 : shadow (Utf8 l.rest); cutting : Cutting (chars l.sep) (chars l.text) (chars l.rest) l.list (split l.limit (chars l.sep) (chars l.text)) l.left }
+
+abbrev pub decreases-loop-left : goal.decreases-loop-left
+decreases-loop-left l = l.left

@@ -1,0 +1,9 @@
+use Rattle.std.proofs.Common.{chars, length}
+use Rattle.py_text.proofs.Windows.{is_window}
+use Rattle.py_text.proofs.Ends.{suffix_is, window_ends}
+use Rattle.py_text.proofs.text.PyStr.endswith.Goals as goal
+
+pub returns-in-Some : goal.returns-in-Some
+returns-in-Some c =
+    let w = is_window c.args.self.now (chars c.between.result.now) c.args.start c.args.end c.len.result c.in-Some.from c.in-Some.to c.len.ensures c.in-Some.ensures c.between.ensures.part in
+    window_ends c.args.affix.now (chars c.as_str.result.now) _ _ _ _ _ _ c.ends_with.result w c.as_str.ensures.value (suffix_is _ _ _ c.as_str.utf8 c.between.utf8 c.ends_with.ensures.cases)
