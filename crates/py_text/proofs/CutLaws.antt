@@ -1,11 +1,11 @@
 -- The places of a text, taken one after another.
-use Rattle.std.proofs.Common.{◌≡◌, ℕ, ◌+◌, ◌-◌, ◌<◌, ◌≤◌, ◌⊎◌, inl, inr, max, Bool, true, false, nat_le, List, [], ◌∷◌, ◌++◌, map, length, take, drop, suc, zero, refl, ap, sym, ◌∙◌, arith, length-append, length-drop, subst, Option, Some, None, option_map, append_assoc, ℤ}
-use Rattle.std.proofs.lemmas.List.{take-append-drop, length-map, drop-append-le, length-take-le}
+use Rattle.std.proofs.Common.{◌≡◌, ℕ, ◌+◌, ◌-◌, ◌<◌, ◌≤◌, ◌⊎◌, inl, inr, max, true, false, nat_le, List, [], ◌∷◌, ◌++◌, map, length, take, drop, suc, zero, refl, ap, sym, ◌∙◌, arith, length-append, length-drop, subst, Option, Some, None, option_map, append_assoc, ℤ}
+use Rattle.std.proofs.lemmas.List.{take-append-drop, length-map, length-take-le}
 use Rattle.std.proofs.lemmas.Bool.Decides.{nat_tests}
 use Rattle.py_text.specs.Search.{stands_in, first_in}
 use Rattle.py_text.specs.Cuts.{cuts, count, CutsAt}
 use Rattle.py_text.specs.Window.{window_start, window_end}
-use Rattle.py_text.proofs.Places.{stands_true, stands_means, not_true, least_is}
+use Rattle.py_text.proofs.Places.{stands_true, least_is}
 use Rattle.py_text.proofs.Windows.{Inside, IsWindow, window_inside, first_inside, first_shift, first_outside, first_means, too_early, whole}
 
 pub cuts_some : (k : ℕ) (x L : List ℕ) (b e a : ℕ) → first_in x L b e ≡ Some a → cuts (suc k) x L b e ≡ a ∷ cuts k x L (a + max 1 (length x)) e

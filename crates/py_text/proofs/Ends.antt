@@ -1,14 +1,14 @@
 -- A text that begins or ends with a text, in bytes and in code points.
-use Rattle.std.proofs.Common.{◌≡◌, ℕ, ◌+◌, ◌-◌, ◌<◌, ◌≤◌, ◌⊎◌, inl, inr, Bool, true, false, nat_le, List, [], ◌∷◌, ◌++◌, length, take, drop, refl, ap, sym, ◌∙◌, arith, length-append, length-drop, subst, ℤ, Option, IsUtf8, chars, encode_utf8_all, MatchBool}
-use Rattle.std.proofs.Math.Seq.{take-append_seam, drop-append_seam}
+use Rattle.std.proofs.Common.{◌≡◌, ℕ, ◌+◌, ◌-◌, ◌<◌, ◌≤◌, ◌⊎◌, inl, inr, Bool, true, false, nat_le, List, [], ◌++◌, length, take, drop, refl, ap, sym, ◌∙◌, arith, length-append, length-drop, ℤ, Option, IsUtf8, chars, encode_utf8_all, MatchBool}
+use Rattle.std.proofs.Math.Seq.{drop-append_seam}
 use Rattle.std.proofs.lemmas.List.{take-append-drop, append-nil, nil_from_length}
 use Rattle.std.proofs.lemmas.Bool.Decides.{nat_tests}
 use Rattle.std.specs.Str.Pattern.{FindsTextPrefix, FindsTextSuffix, HasPrefixMatch, HasSuffixMatch}
 use Rattle.std.specs.declared.option.Option.TheVariants.{None}
-use Rattle.std.proofs.lemmas.Str.{encodes-chars, chars-append, encodes-append, IsUtf8-take, IsUtf8-drop}
+use Rattle.std.proofs.lemmas.Str.{encodes-chars, chars-append, encodes-append, IsUtf8-take}
 use Rattle.py_text.specs.Search.{stands_in, begins_with, ends_with}
 use Rattle.py_text.specs.Window.{window_start, window_end}
-use Rattle.py_text.proofs.Places.{Stands, StandsIn, stands_true, stands_means, not_true, in_bytes}
+use Rattle.py_text.proofs.Places.{StandsIn, stands_true, stands_means, not_true, in_bytes}
 use Rattle.py_text.proofs.Windows.{Inside, IsWindow, window_inside, same_test}
 
 pub prefix_is : (r : Bool) (n s : List ℕ) → IsUtf8 n → IsUtf8 s → MatchBool r (HasPrefixMatch (FindsTextPrefix n) s) (FindsTextPrefix n s None) → r ≡ stands_in (chars n) (chars s) 0 (length (chars s)) 0

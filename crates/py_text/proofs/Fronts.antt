@@ -1,9 +1,9 @@
 -- A text up to its first code point of a kind, and from its last one on.
-use Rattle.std.proofs.Common.{◌≡◌, ℕ, ◌+◌, ◌-◌, ◌<◌, ◌≤◌, Bool, true, false, not, cond, if◌then◌else◌, List, [], ◌∷◌, ◌++◌, reverse, length, take, drop, take_while, refl, ap, sym, ◌∙◌, arith, subst, Option, Some, None, IsUtf8, chars, encode_utf8, encode_utf8_all, IsCharBoundary, append_assoc, take-add}
+use Rattle.std.proofs.Common.{◌≡◌, ℕ, ◌+◌, ◌<◌, Bool, true, false, not, cond, if◌then◌else◌, List, [], ◌∷◌, ◌++◌, reverse, length, take, drop, take_while, refl, ap, sym, ◌∙◌, arith, subst, Some, None, IsUtf8, chars, encode_utf8_all, IsCharBoundary, append_assoc, take-add}
 use Rattle.std.specs.Str.{NoCharPasses, NonePass}
 use Rattle.std.specs.Str.Pattern.{FindsBy, RFindsBy, HasPassingCharAt}
 use Rattle.std.proofs.lemmas.Str.{chars_from_encodes, chars-append, chars_past_char, IsUtf8-take, IsUtf8-drop, encodes-chars, len_utf8_bounds}
-use Rattle.std.proofs.lemmas.List.{take-append-drop, reverse-append, append-nil, reverse-reverse}
+use Rattle.std.proofs.lemmas.List.{take-append-drop, reverse-append}
 use Rattle.std.proofs.lemmas.List.Sums.{take_while-cons}
 use Rattle.py_text.specs.Blanks.{skip_while}
 

@@ -1,6 +1,6 @@
 -- Pieces glued together with a text behind each.
-use Rattle.std.proofs.Common.{◌≡◌, ℕ, ◌+◌, ◌-◌, ◌<◌, ◌≤◌, max, List, [], ◌∷◌, ◌++◌, length, take, drop, slice_range, suc, zero, refl, ap, sym, ◌∙◌, arith, length-append, length-drop, subst, append_assoc, append-nil, take-take, take-add, get_or, Option, Some, None, slice_get, Result, Ok, Err, OnOk, le_of_lt}
-use Rattle.std.proofs.lemmas.List.{take-append-drop, drop-drop, drop_all, take_more, take_rest, nil_from_length, length-take-le}
+use Rattle.std.proofs.Common.{◌≡◌, ℕ, ◌+◌, ◌-◌, ◌<◌, ◌≤◌, List, [], ◌∷◌, ◌++◌, length, take, drop, slice_range, suc, zero, refl, ap, sym, ◌∙◌, arith, length-drop, append_assoc, append-nil, get_or, Some, None, slice_get, Result, Ok, Err, OnOk, le_of_lt}
+use Rattle.std.proofs.lemmas.List.{take-append-drop, drop-drop, take_more, length-take-le}
 use Rattle.py_text.specs.Search.{first_in}
 use Rattle.py_text.specs.Cuts.{cuts, pieces, split, joined, replace, CutsAt}
 use Rattle.py_text.proofs.Windows.{first_outside}
@@ -143,7 +143,7 @@ item_there (x ∷ xs) (suc i) l h = item_there xs i (omega arith) h
 taken_item : (items : List (List ℕ)) (i : ℕ) (q : List ℕ) → i < length items → slice_get items i ≡ Some q → take (i + 1) items ≡ take i items ++ q ∷ []
 taken_item items i q l h = take_more items i [] l ∙ ap (λ r. take i items ++ r ∷ []) (item_at items i q h)
 
-joined_on : (x : List ℕ) (ps : List (List ℕ)) (q : List ℕ) → 0 < length ps → joined x (ps ++ q ∷ []) ≡ joined x ps ++ (x ++ q)
+pub joined_on : (x : List ℕ) (ps : List (List ℕ)) (q : List ℕ) → 0 < length ps → joined x (ps ++ q ∷ []) ≡ joined x ps ++ (x ++ q)
 joined_on x [] q h = absurd (omega arith)
 joined_on x (p ∷ ps) q h = joined_more x p ps q
 

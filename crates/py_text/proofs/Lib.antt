@@ -5,6 +5,7 @@ pub mod CutLaws
 pub mod Ends
 pub mod Fronts
 pub mod Gluing
+pub mod JoinLaws
 pub mod LineLaws
 pub mod Mirrors
 pub mod PieceLaws

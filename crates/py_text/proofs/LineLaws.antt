@@ -1,13 +1,12 @@
 -- The first line of a text.
-use Rattle.std.proofs.Common.{◌≡◌, ℕ, ◌+◌, ◌<◌, ◌≤◌, ◌&&◌, ◌==◌, Bool, true, false, not, cond, nat_eq, if◌then◌else◌, List, [], ◌∷◌, ◌++◌, map, length, take, drop, take_while, refl, ap, sym, ◌∙◌, arith, subst, eqb-true, append_assoc, append-nil, length-drop, suc, take-add, drop-drop, chars, IsUtf8}
+use Rattle.std.proofs.Common.{◌≡◌, ℕ, ◌+◌, ◌<◌, ◌≤◌, ◌&&◌, ◌==◌, Bool, true, false, not, cond, if◌then◌else◌, List, [], ◌∷◌, ◌++◌, map, length, take, drop, take_while, refl, ap, sym, ◌∙◌, arith, subst, eqb-true, append_assoc, append-nil, length-drop, suc, take-add, drop-drop, chars, IsUtf8}
 use Rattle.std.proofs.lemmas.List.Sums.{take_while-cons}
 use Rattle.std.proofs.lemmas.Str.{chars-append}
-use Rattle.std.specs.List.{concat}
 use Rattle.py_base.specs.Classes.{is_line_end}
 use Rattle.py_text.specs.Blanks.{skip_while}
 use Rattle.py_text.specs.Lines.{starts_with_lf, closes_line, end_width, in_front, whole_lines, without_end, split_lines}
 use Rattle.py_text.specs.Search.{stands_in}
-use Rattle.py_text.proofs.Places.{Stands, stands_true, stands_means, not_true}
+use Rattle.py_text.proofs.Places.{stands_true, stands_means, not_true}
 
 and_first : (a b : Bool) → (a && b) ≡ true → a ≡ true
 and_first true b h = refl
@@ -115,7 +114,7 @@ skip_le_case : (q : ℕ → Bool) (c : ℕ) (cs : List ℕ) (t : Bool) → q c �
 skip_le_case q c cs true h more = omega (arith, more, ap length (ap (λ t. if t then skip_while q cs else c ∷ cs) h))
 skip_le_case q c cs false h more = omega (arith, ap length (ap (λ t. if t then skip_while q cs else c ∷ cs) h))
 
-skip_le : (q : ℕ → Bool) (L : List ℕ) → length (skip_while q L) ≤ length L
+pub skip_le : (q : ℕ → Bool) (L : List ℕ) → length (skip_while q L) ≤ length L
 skip_le q [] = omega arith
 skip_le q (c ∷ cs) = skip_le_case q c cs (q c) refl (skip_le q cs)
 

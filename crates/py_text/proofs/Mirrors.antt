@@ -1,9 +1,9 @@
 -- Searches from the right are searches from the left in the texts turned round.
-use Rattle.std.proofs.Common.{◌≡◌, ℕ, ◌+◌, ◌-◌, ◌<◌, ◌≤◌, ◌⊎◌, inl, inr, Bool, true, false, if◌then◌else◌, List, [], ◌∷◌, ◌++◌, map, reverse, length, take, drop, suc, zero, refl, ap, sym, ◌∙◌, arith, length-append, length-drop, subst, Option, Some, None, append_assoc}
+use Rattle.std.proofs.Common.{◌≡◌, ℕ, ◌+◌, ◌-◌, ◌<◌, ◌≤◌, ◌⊎◌, inl, inr, Bool, true, false, if◌then◌else◌, List, ◌++◌, reverse, length, take, drop, suc, zero, refl, ap, sym, ◌∙◌, arith, length-append, length-drop, subst, Option, Some, None, append_assoc}
 use Rattle.std.proofs.lemmas.List.{take-append-drop, length-take-le, reverse-append, reverse-reverse, length-reverse, drop_at, take_at}
 use Rattle.py_text.specs.Search.{stands_in, greatest, first_in, last_in}
 use Rattle.py_text.specs.Cuts.{CutsAt}
-use Rattle.py_text.proofs.Places.{Stands, StandsIn, stands_true, stands_means, first_is, first_none, below_or_last}
+use Rattle.py_text.proofs.Places.{Stands, stands_true, first_is, first_none, below_or_last}
 use Rattle.py_text.proofs.Windows.{last_means}
 
 -- above the greatest number that passes, none passes

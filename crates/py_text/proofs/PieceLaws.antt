@@ -1,6 +1,6 @@
 -- The pieces between the places of a text, one after another.
-use Rattle.std.proofs.Common.{◌≡◌, ℕ, ◌+◌, ◌-◌, ◌<◌, ◌≤◌, max, Bool, true, false, List, [], ◌∷◌, ◌++◌, map, reverse, length, take, drop, slice_range, suc, zero, refl, ap, sym, ◌∙◌, arith, length-append, length-drop, subst, Option, Some, None, option_map, append_assoc, Result, Ok, Err, IfOk, chars}
-use Rattle.std.proofs.lemmas.List.{take-append-drop, drop-append-le, take-append-le, length-take-le, nil_from_length, append-nil, drop_at, reverse-reverse}
+use Rattle.std.proofs.Common.{◌≡◌, ℕ, ◌+◌, ◌-◌, ◌<◌, ◌≤◌, max, List, [], ◌∷◌, ◌++◌, map, reverse, length, take, drop, slice_range, suc, refl, ap, sym, ◌∙◌, arith, length-append, subst, Option, Some, None, option_map, append_assoc, Result, Ok, Err, IfOk, chars}
+use Rattle.std.proofs.lemmas.List.{take-append-le, nil_from_length, append-nil, drop_at, reverse-reverse}
 use Rattle.std.proofs.lemmas.Str.{chars-nil}
 use Rattle.py_text.specs.Search.{first_in, last_in}
 use Rattle.py_text.specs.Cuts.{cuts, pieces, split, mirrored, CutsAt, partition, rpartition, parted_at}

@@ -1,5 +1,5 @@
 -- Where a text stands in a text, in code points and in bytes.
-use Rattle.std.proofs.Common.{◌≡◌, ℕ, ◌+◌, ◌-◌, ◌<◌, ◌≤◌, ◌&&◌, ◌⊎◌, inl, inr, ⊎_elim, Bool, true, false, nat_eq, nat_le, if◌then◌else◌, List, [], ◌∷◌, ◌++◌, length, take, drop, suc, zero, refl, ap, sym, ◌∙◌, arith, length-append, length-drop, subst, Option, Some, None, le-leb, leb-true, append_assoc, IsCharBoundary, IsUtf8, chars, encode_utf8, encode_utf8_all}
+use Rattle.std.proofs.Common.{◌≡◌, ℕ, ◌+◌, ◌<◌, ◌≤◌, ◌&&◌, ◌⊎◌, inl, inr, Bool, true, false, nat_eq, nat_le, if◌then◌else◌, List, [], ◌∷◌, ◌++◌, length, take, drop, suc, zero, refl, ap, sym, ◌∙◌, arith, length-append, length-drop, subst, Some, None, le-leb, leb-true, IsCharBoundary, IsUtf8, chars, encode_utf8, encode_utf8_all}
 use Rattle.std.proofs.Math.Seq.{take-append_seam, drop-append_seam, drop-append-add}
 use Rattle.std.proofs.lemmas.List.{take-append-drop, length-take-le}
 use Rattle.std.proofs.lemmas.Bool.Decides.{nat_tests}

@@ -1,16 +1,15 @@
 -- Searches in a part of a text, and in the whole of that part.
-use Rattle.std.proofs.Common.{◌≡◌, ℕ, ◌+◌, ◌-◌, ◌<◌, ◌≤◌, ◌&&◌, max, Bool, true, false, nat_eq, nat_le, nat_lt, ℤ, if◌then◌else◌, List, [], ◌∷◌, ◌++◌, map, length, take, drop, slice_range, suc, zero, refl, ap, sym, ◌∙◌, arith, length-append, length-drop, length-take, subst, Option, Some, None, option_map, append_assoc, add-zero, add-suc}
-use Rattle.std.proofs.Math.Seq.{take-append_seam, drop-append_seam, drop-append-add}
-use Rattle.std.proofs.lemmas.List.{take-append-drop, length-take-le, drop-drop, drop-append-le, take-append-le, length-map}
+use Rattle.std.proofs.Common.{◌≡◌, ℕ, ◌+◌, ◌-◌, ◌<◌, ◌≤◌, ◌&&◌, Bool, true, false, nat_eq, nat_le, nat_lt, ℤ, if◌then◌else◌, List, [], ◌∷◌, ◌++◌, length, take, drop, slice_range, suc, zero, refl, ap, sym, ◌∙◌, arith, length-drop, subst, Option, Some, None, option_map, add-zero, add-suc}
+use Rattle.std.proofs.Math.Seq.{drop-append-add}
+use Rattle.std.proofs.lemmas.List.{take-append-drop, length-take-le, drop-append-le, take-append-le}
 use Rattle.std.proofs.lemmas.Bool.Decides.{nat_tests}
 use Rattle.std.specs.List.{starts_with}
 use Rattle.std.specs.Option.{option_or}
 use Rattle.std.specs.Cmp.Lexicographic.{pointwise}
 use Rattle.py_text.specs.Search.{stands_in, least, greatest, first_in, last_in, find, rfind}
 use Rattle.py_text.specs.Window.{window_start, window_end}
-use Rattle.py_text.specs.Cuts.{cuts}
 use Rattle.py_text.specs.Mark.{all_ascii}
-use Rattle.py_text.proofs.Places.{StandsIn, Stands, stands_true, stands_means, least_is, least_none, greatest_is, greatest_none}
+use Rattle.py_text.proofs.Places.{StandsIn, stands_means, least_none, greatest_none}
 
 -- W is the part of L from b to e
 pub record Inside (L W : List ℕ) (b e : ℕ) : Type 0 where

@@ -1,11 +1,17 @@
 -- Laws of texts.
-use Rattle.std.specs.Prelude.{◌≡◌, ◌<◌, ◌≤◌, ◌≤ℤ◌, ◌↔◌, ◌≢◌, ℕ, ◌+◌, zero, suc, ℤ, pos, nat_eq, IsTrue, List, [], ◌∷◌, ◌++◌, length, Option, Some, None}
+use Rattle.std.specs.Prelude.{◌≡◌, ◌<◌, ◌≤◌, ◌≤ℤ◌, ◌↔◌, ◌≢◌, ℕ, ◌+◌, zero, suc, ℤ, pos, nat_eq, IsTrue, true, List, [], ◌∷◌, ◌++◌, length, Option, Some, None}
+use Rattle.std.specs.List.{concat}
 use Rattle.std.specs.Option.{option_to_list}
 use Rattle.std.specs.Cmp.Lexicographic.{pointwise, slice_cmp}
 use Rattle.std.specs.Ordering.{nat_cmp}
 use Rattle.std.specs.declared.cmp.Ordering.TheVariants.{Less}
+use Rattle.py_text.specs.Blanks.{words}
+use Rattle.py_text.specs.Cuts.{cuts, joined, partition, rpartition}
 use Rattle.py_text.specs.Iteration.{Standing, still, next_of, after_next, placed}
+use Rattle.py_text.specs.Lines.{split_lines}
+use Rattle.py_text.specs.Search.{stands_in, first_in, last_in}
 use Rattle.py_text.specs.Slices.{places_from, start_of, stop_of}
+use Rattle.py_text.specs.Splits.{split_by, rsplit_by}
 use Rattle.py_text.specs.TextHash.{text_hash}
 
 -- two texts are equal just where their lists are
@@ -49,3 +55,35 @@ StaysExhausted = (z : ℤ) → (next_of None ≡ None) × (after_next None ≡ N
 abbrev pub NoMorePlaces : Type 0
 NoMorePlaces = (n more : ℕ) (start stop : Option ℤ) (step : ℤ) → step ≢ pos 0
     → places_from (n + more) step (stop_of n step stop) (start_of n step start) ≡ places_from n step (stop_of n step stop) (start_of n step start)
+
+-- where x stands in a part of a text, the first place found is there and not past it
+abbrev pub FirstIsLeast : Type 0
+FirstIsLeast = (x L : List ℕ) (b e a : ℕ) → stands_in x L b e a ≡ true → (c : ℕ) × (first_in x L b e ≡ Some c) × (stands_in x L b e c ≡ true) × (c ≤ a)
+
+-- and the last place found is not before it
+abbrev pub LastIsGreatest : Type 0
+LastIsGreatest = (x L : List ℕ) (b e a : ℕ) → stands_in x L b e a ≡ true → (c : ℕ) × (last_in x L b e ≡ Some c) × (stands_in x L b e c ≡ true) × (a ≤ c)
+
+-- asking for more places than code points and one gives no more
+abbrev pub NoMoreCuts : Type 0
+NoMoreCuts = (k : ℕ) (x L : List ℕ) → length L < k → cuts k x L 0 (length L) ≡ cuts (length L + 1) x L 0 (length L)
+
+-- nor does asking for more words than code points
+abbrev pub NoMoreWords : Type 0
+NoMoreWords = (k : ℕ) (L : List ℕ) → length L < k → words k L ≡ words (length L + 1) L
+
+-- the lines with their ends, joined, are the text
+abbrev pub LinesAreTheText : Type 0
+LinesAreTheText = (L : List ℕ) → concat (split_lines true L) ≡ L
+
+-- the pieces of `split`, joined by a separator that is not empty, are the text, for each maxsplit
+abbrev pub PiecesAreTheText : Type 0
+PiecesAreTheText = (x L : List ℕ) (m : ℤ) → x ≢ [] → joined x (split_by (Some x) m L) ≡ L
+
+-- and so are those of `rsplit`
+abbrev pub PiecesFromRightAreTheText : Type 0
+PiecesFromRightAreTheText = (x L : List ℕ) (m : ℤ) → x ≢ [] → joined x (rsplit_by (Some x) m L) ≡ L
+
+-- front, mid and back of a partition, joined, are the text
+abbrev pub PartsAreTheText : Type 0
+PartsAreTheText = (x L : List ℕ) → (let p = partition x L in p.0 ++ p.1 ++ p.2 ≡ L) × (let p = rpartition x L in p.0 ++ p.1 ++ p.2 ≡ L)

@@ -1,5 +1,5 @@
 -- Where a text stands in a text. A place counts code points from the text's beginning.
-use Rattle.std.specs.Prelude.{ℕ, zero, suc, ◌+◌, ◌-◌, ◌&&◌, Bool, true, false, nat_eq, nat_le, if◌then◌else◌, List, length, drop, ℤ, pos, negsuc, Option, Some, None}
+use Rattle.std.specs.Prelude.{ℕ, zero, suc, ◌+◌, ◌-◌, ◌&&◌, Bool, nat_eq, nat_le, if◌then◌else◌, List, length, drop, ℤ, pos, negsuc, Option, Some, None}
 use Rattle.std.specs.List.{starts_with}
 use Rattle.std.specs.Option.{option_or}
 use Rattle.py_text.specs.Window.{window_start, window_end}

@@ -1,7 +1,7 @@
 -- Worked rows of searches and splits, which compute.
-use Rattle.std.specs.Prelude.{◌≡◌, refl, true, false, [], ◌∷◌, codes, Some, None, pos, negsuc}
+use Rattle.std.specs.Prelude.{◌≡◌, refl, false, [], ◌∷◌, codes, Some, None, pos, negsuc}
 use Rattle.py_text.specs.Search.{find, rfind}
-use Rattle.py_text.specs.Cuts.{count, split, rsplit, replace, partition}
+use Rattle.py_text.specs.Cuts.{count, rsplit, replace}
 use Rattle.py_text.specs.Blanks.{words, rwords}
 use Rattle.py_text.specs.Lines.{split_lines}
 

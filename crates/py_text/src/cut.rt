@@ -1,6 +1,6 @@
 //! Where a text first or last stands in a text, and the text cut there.
 
-ghost use Rattle.std.specs.Prelude.{◌≡◌, ◌≤◌, None, MatchOption, IfSome, IsUtf8, IsCharBoundary, length, take, chars, true};
+ghost use Rattle.std.specs.Prelude.{◌≡◌, None, MatchOption, IfSome, IsUtf8, IsCharBoundary, length, take, chars, true};
 ghost use Rattle.py_text.specs.Search.{first_in, last_in};
 ghost use Rattle.py_text.specs.Cuts.{CutsAt};
 ghost use Rattle.py_text.specs.Mark.{all_ascii};

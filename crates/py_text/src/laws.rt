@@ -1,6 +1,6 @@
 //! Laws of texts.
 
-ghost use Rattle.py_text.specs.Laws.{EqualAsLists, OrderedByFirstDifference, BeginningsFirst, EqualHashes, LengthOfSum, GivesTheRest, NothingPastTheEnd, StaysExhausted, NoMorePlaces};
+ghost use Rattle.py_text.specs.Laws.{EqualAsLists, OrderedByFirstDifference, BeginningsFirst, EqualHashes, LengthOfSum, GivesTheRest, NothingPastTheEnd, StaysExhausted, NoMorePlaces, FirstIsLeast, LastIsGreatest, NoMoreCuts, NoMoreWords, LinesAreTheText, PiecesAreTheText, PiecesFromRightAreTheText, PartsAreTheText};
 
 /// Two texts are equal just where their code points are.
 pub fn texts_equal_as_lists()
@@ -45,4 +45,44 @@ pub fn exhausted_for_good()
 /// A slice takes at most as many places as the text has.
 pub fn slices_take_no_more_places()
     ensures { NoMorePlaces }
+{}
+
+/// The place that `find` answers is the least one.
+pub fn first_place_is_the_least()
+    ensures { FirstIsLeast }
+{}
+
+/// The place that `rfind` answers is the greatest one.
+pub fn last_place_is_the_greatest()
+    ensures { LastIsGreatest }
+{}
+
+/// No text has more places of a text than code points and one, so that a limit past that is none.
+pub fn no_more_cuts()
+    ensures { NoMoreCuts }
+{}
+
+/// No text has more words than code points.
+pub fn no_more_words()
+    ensures { NoMoreWords }
+{}
+
+/// The lines with their ends, joined, are the text.
+pub fn lines_are_the_text()
+    ensures { LinesAreTheText }
+{}
+
+/// The pieces of `split`, joined by the separator, are the text.
+pub fn pieces_are_the_text()
+    ensures { PiecesAreTheText }
+{}
+
+/// The pieces of `rsplit`, joined by the separator, are the text.
+pub fn pieces_from_right_are_the_text()
+    ensures { PiecesFromRightAreTheText }
+{}
+
+/// The three parts of a partition, joined, are the text.
+pub fn parts_are_the_text()
+    ensures { PartsAreTheText }
 {}

@@ -1,6 +1,6 @@
 //! A text cut at a separator into pieces.
 
-ghost use Rattle.std.specs.Prelude.{◌≡◌, ◌≢◌, ◌<◌, ◌+◌, ◌++◌, ◌∷◌, ◌^◌, [], Some, length, map, reverse, chars, IfOk, IsOk, IsOkUnless, Err};
+ghost use Rattle.std.specs.Prelude.{◌≡◌, ◌≢◌, ◌<◌, ◌++◌, ◌∷◌, ◌^◌, [], Some, length, map, reverse, chars, IfOk, IsOk, IsOkUnless, Err};
 ghost use Rattle.py_text.specs.Cuts.{limit, split, rsplit, partition, rpartition};
 ghost use Rattle.py_text.specs.Splits.{split_by, rsplit_by};
 

@@ -1,6 +1,6 @@
 //! Texts joined, and parts of a text replaced.
 
-ghost use Rattle.std.specs.Prelude.{◌≡◌, ◌<◌, ◌^◌, ◌++◌, ◌+◌, length, take, chars, IfOk, OnOk, IsOkUnless, [], pos, option_map};
+ghost use Rattle.std.specs.Prelude.{◌≡◌, ◌<◌, ◌^◌, ◌++◌, ◌+◌, length, take, chars, IfOk, OnOk, IsOkUnless, []};
 ghost use Rattle.py_text.specs.Cuts.{limit_or_all, joined, replace};
 
 use crate::cut::first_cut;

@@ -1,4 +1,5 @@
 //! Worked rows of texts, as Python answers them.
 
+mod searching;
 mod sharing;
 mod slicing;

@@ -1,4 +1,4 @@
-use Rattle.std.proofs.Common.{◌≡◌, ◌<◌, ◌∙◌, ap, sym, refl, not, rules, Bool, ℕ, take, drop, length, chars, reverse, arith, [], IsCharBoundary}
+use Rattle.std.proofs.Common.{◌∙◌, ap, sym, refl, not, rules, reverse}
 use Rattle.std.proofs.lemmas.Str.{chars-nil, IsCharBoundary-start}
 use Rattle.std.proofs.lemmas.List.Sorted.{answers_always}
 use Rattle.py_text.specs.Blanks.{is_blank}

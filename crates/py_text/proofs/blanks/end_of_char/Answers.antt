@@ -1,4 +1,4 @@
-use Rattle.std.proofs.Common.{◌≡◌, ◌+◌, ◌<◌, ◌++◌, ◌∙◌, ap, sym, take, drop, length, chars, arith, subst, IsCharBoundary, IsUtf8}
+use Rattle.std.proofs.Common.{◌<◌, ◌++◌, ◌∙◌, ap, sym, take, drop, length, chars, arith, IsUtf8}
 use Rattle.std.proofs.lemmas.Str.{chars-append, IsUtf8-take}
 use Rattle.py_text.proofs.Fronts.{some_chars, take_on}
 use Rattle.py_text.proofs.blanks.end_of_char.Goals as goal

@@ -1,9 +1,9 @@
-use Rattle.std.proofs.Common.{◌≡◌, ◌∙◌, ap, sym, refl, not, rules, Bool, ℕ, drop, length, chars, [], le_refl}
+use Rattle.std.proofs.Common.{◌∙◌, ap, sym, not, rules, length, chars, le_refl}
 use Rattle.std.proofs.lemmas.Str.{chars-nil}
 use Rattle.std.proofs.lemmas.List.{drop_all}
 use Rattle.std.proofs.lemmas.List.Sorted.{answers_always}
 use Rattle.py_text.specs.Blanks.{is_blank}
-use Rattle.py_text.proofs.Fronts.{Opposite, found_front, none_front, twice_not}
+use Rattle.py_text.proofs.Fronts.{found_front, none_front, twice_not}
 use Rattle.py_text.proofs.blanks.without_blanks.Goals as goal
 
 pub returns-in-Some : goal.returns-in-Some

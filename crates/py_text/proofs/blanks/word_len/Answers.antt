@@ -1,4 +1,4 @@
-use Rattle.std.proofs.Common.{◌≡◌, ◌∙◌, ap, sym, refl, not, rules, Bool, ℕ, take, drop, length, chars, [], le_refl, take_all}
+use Rattle.std.proofs.Common.{◌∙◌, ap, sym, refl, not, rules, length, chars, le_refl, take_all}
 use Rattle.std.proofs.lemmas.Str.{chars-nil}
 use Rattle.std.proofs.lemmas.List.{drop_all}
 use Rattle.std.proofs.lemmas.List.Sorted.{answers_always}

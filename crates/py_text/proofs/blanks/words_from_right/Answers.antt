@@ -1,10 +1,10 @@
-use Rattle.std.proofs.Common.{◌≡◌, ◌<◌, ◌-◌, ◌∷◌, ◌++◌, [], ◌∙◌, ap, sym, length, chars, take, drop, map, reverse, arith}
+use Rattle.std.proofs.Common.{◌≡◌, ◌<◌, ◌-◌, ◌∷◌, ◌++◌, [], ◌∙◌, ap, length, chars, take, drop, map, reverse, arith}
 use Rattle.std.proofs.lemmas.Bool.Decides.{nat_tests}
 use Rattle.std.proofs.lemmas.Str.{chars-nil}
 use Rattle.std.proofs.lemmas.List.{nil_from_length, map_push, length-reverse}
 use Rattle.py_text.specs.Blanks.{is_blank, skip_while}
 use Rattle.py_text.proofs.Fronts.{some_chars}
-use Rattle.py_text.proofs.Words.{Wording, wording_none, wording_more, wording_rest, wording_all}
+use Rattle.py_text.proofs.Words.{wording_none, wording_more, wording_rest, wording_all}
 use Rattle.py_text.proofs.blanks.words_from_right.Goals as goal
 
 pub loop-rest-init : goal.loop-rest-init

@@ -1,4 +1,4 @@
-use Rattle.std.proofs.Common.{◌≡◌, ◌<◌, ◌+◌, ◌∙◌, ap, sym, subst, List, ℕ, ◌∷◌, length, chars, take, drop, arith, not, ◌++◌, IsUtf8, IsCharBoundary}
+use Rattle.std.proofs.Common.{◌≡◌, ◌<◌, ◌+◌, ◌∙◌, ap, sym, List, ℕ, ◌∷◌, length, chars, take, drop, arith, not, ◌++◌, IsUtf8, IsCharBoundary}
 use Rattle.std.proofs.lemmas.Bool.Decides.{nat_tests}
 use Rattle.std.proofs.lemmas.Str.{chars-nil, IsUtf8-take}
 use Rattle.std.proofs.lemmas.List.{nil_from_length}

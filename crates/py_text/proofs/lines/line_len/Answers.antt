@@ -1,8 +1,7 @@
-use Rattle.std.proofs.Common.{◌≡◌, ◌∙◌, ap, sym, refl, not, rules, Bool, ℕ, take, drop, length, chars, [], le_refl, take_all}
+use Rattle.std.proofs.Common.{◌∙◌, ap, sym, refl, not, rules, length, chars, le_refl, take_all}
 use Rattle.std.proofs.lemmas.Str.{chars-nil}
 use Rattle.std.proofs.lemmas.List.{drop_all}
 use Rattle.std.proofs.lemmas.List.Sorted.{answers_always}
-use Rattle.py_text.specs.Blanks.{skip_while}
 use Rattle.py_base.specs.Classes.{is_line_end}
 use Rattle.py_text.proofs.Fronts.{found_front, none_front}
 use Rattle.py_text.proofs.lines.line_len.Goals as goal

@@ -1,6 +1,6 @@
-use Rattle.std.proofs.Common.{◌≡◌, ◌<◌, ◌-◌, ◌∷◌, ◌++◌, [], List, ℕ, length, map, reverse, ◌∙◌, ap, sym, subst, suc, arith, chars, IfOk}
+use Rattle.std.proofs.Common.{◌<◌, ◌-◌, ◌∷◌, ◌++◌, [], length, map, reverse, ◌∙◌, ap, arith, chars}
 use Rattle.std.proofs.lemmas.List.{length-reverse, map_push}
-use Rattle.py_text.proofs.PieceLaws.{Cutting, cutting_none, cutting_more, cutting_stops, cutting_ends, ok_turned}
+use Rattle.py_text.proofs.PieceLaws.{cutting_none, cutting_more, cutting_stops, cutting_ends, ok_turned}
 use Rattle.py_text.proofs.Mirrors.{mirror_none, mirror_cut}
 use Rattle.py_text.proofs.pieces.pieces_from_right.Goals as goal
 

@@ -1,4 +1,3 @@
-use Rattle.std.proofs.Common.{◌≡◌, ◌∙◌, ap, sym}
 use Rattle.py_text.proofs.PieceLaws.{mirror_of}
 use Rattle.py_text.proofs.pieces.rsplit_at.Goals as goal
 

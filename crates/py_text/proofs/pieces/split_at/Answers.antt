@@ -1,5 +1,5 @@
-use Rattle.std.proofs.Common.{◌≡◌, ◌-◌, ◌∷◌, ◌++◌, [], List, ℕ, ◌∙◌, ap, sym, subst, suc, arith, chars, IfOk}
-use Rattle.py_text.proofs.PieceLaws.{Cutting, cutting_none, cutting_more, cutting_stops, cutting_ends}
+use Rattle.std.proofs.Common.{◌≡◌, ◌-◌, ◌∷◌, ◌++◌, [], List, ℕ, ◌∙◌, ap, subst, arith, chars, IfOk}
+use Rattle.py_text.proofs.PieceLaws.{cutting_none, cutting_more, cutting_stops, cutting_ends}
 use Rattle.py_text.proofs.pieces.split_at.Goals as goal
 
 pub loop-left-init : goal.loop-left-init

@@ -1,4 +1,4 @@
-use Rattle.std.proofs.Common.{◌≡◌, ◌<◌, ◌∙◌, ap, chars, length, take, drop, arith, ◌-◌}
+use Rattle.std.proofs.Common.{◌≡◌, ◌<◌, ◌∙◌, ap, chars, length, arith, ◌-◌}
 use Rattle.std.proofs.lemmas.Bool.Decides.{nat_tests}
 use Rattle.std.proofs.lemmas.Str.{chars-nil, IsUtf8-drop}
 use Rattle.std.proofs.lemmas.List.{nil_from_length}

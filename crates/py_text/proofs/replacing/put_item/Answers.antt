@@ -1,4 +1,4 @@
-use Rattle.std.proofs.Common.{◌≡◌, ◌++◌, ◌∙◌, ap, sym, List, ℕ, take, chars, arith, ◌+◌}
+use Rattle.std.proofs.Common.{◌≡◌, ◌++◌, ◌∙◌, ap, sym, take, arith, ◌+◌}
 use Rattle.py_text.specs.Cuts.{joined}
 use Rattle.py_text.proofs.Gluing.{item_there, first_item, next_item, on_ok}
 use Rattle.py_text.proofs.replacing.put_item.Goals as goal

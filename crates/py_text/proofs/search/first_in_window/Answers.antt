@@ -1,4 +1,4 @@
-use Rattle.std.proofs.Common.{◌≡◌, ◌<◌, ◌≤◌, ◌^◌, ◌+◌, ◌∙◌, ap, sym, Some, chars, length, arith, option_map}
+use Rattle.std.proofs.Common.{◌<◌, ◌+◌, ◌∙◌, ap, sym, chars, length, arith, option_map}
 use Rattle.py_text.specs.Window.{window_start, window_end}
 use Rattle.py_text.proofs.Windows.{first_outside, ascii_part, is_window, window_first, window_place, first_means}
 use Rattle.py_text.proofs.search.first_in_window.Goals as goal

@@ -1,4 +1,4 @@
-use Rattle.std.proofs.Common.{chars, length}
+use Rattle.std.proofs.Common.{chars}
 use Rattle.py_text.proofs.Windows.{is_window}
 use Rattle.py_text.proofs.Ends.{suffix_is, window_ends}
 use Rattle.py_text.proofs.text.PyStr.endswith.Goals as goal

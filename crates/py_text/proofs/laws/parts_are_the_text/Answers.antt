@@ -1,0 +1,5 @@
+use Rattle.py_text.proofs.JoinLaws.{parts_are}
+use Rattle.py_text.proofs.laws.parts_are_the_text.Goals as goal
+
+pub returns : goal.returns
+returns c = parts_are

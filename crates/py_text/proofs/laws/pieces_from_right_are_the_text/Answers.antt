@@ -1,0 +1,5 @@
+use Rattle.py_text.proofs.JoinLaws.{pieces_from_right_are}
+use Rattle.py_text.proofs.laws.pieces_from_right_are_the_text.Goals as goal
+
+pub returns : goal.returns
+returns c = pieces_from_right_are
