@@ -1,6 +1,6 @@
 //! Bytes.
 
-ghost use Rattle.std.specs.Prelude.{◌≡◌, List, length, IfOk, IsOkUnless};
+ghost use Rattle.std.specs.Prelude.{◌≡◌, length, IfOk, IsOkUnless};
 
 use py_base::{PyError, PyResult};
 use std::alloc::Global;

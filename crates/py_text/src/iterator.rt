@@ -1,6 +1,6 @@
 //! An iterator over the code points of a text.
 
-ghost use Rattle.std.specs.Prelude.{◌≡◌, ◌+◌, ◌≤◌, pos, unsigned_abs, Some, None, length, drop, slice_get, IfSome, IfNone};
+ghost use Rattle.std.specs.Prelude.{◌≡◌, ◌+◌, ◌≤◌, pos, unsigned_abs, Some, length, drop, slice_get, IfSome};
 ghost use Rattle.py_text.specs.Handed.{told};
 ghost use Rattle.py_text.specs.Iteration.{still, next_of, after_next, placed};
 ghost use Rattle.py_text.specs.Slices.{cut_to};

@@ -1,6 +1,6 @@
 //! A list of texts, and the three parts of a text.
 
-ghost use Rattle.std.specs.Prelude.{◌≡◌, List, [], ◌∷◌, ◌++◌, length, reverse, slice_get, option_copied, OnOk, OnErr, IsOkUnless};
+ghost use Rattle.std.specs.Prelude.{◌≡◌, [], ◌∷◌, ◌++◌, length, reverse, slice_get, option_copied, OnOk, OnErr, IsOkUnless};
 
 use crate::text::PyStr;
 use py_base::{PyError, PyResult};

@@ -1,6 +1,6 @@
 //! A text that is shared.
 
-ghost use Rattle.std.specs.Prelude.{◌≡◌, List, ◌++◌, chars, IfOk, OnOk, OnErr, IsOkUnless};
+ghost use Rattle.std.specs.Prelude.{◌≡◌, ◌++◌, chars, IfOk, OnOk, OnErr, IsOkUnless};
 
 use crate::text::PyStr;
 use py_base::{PyError, PyResult};

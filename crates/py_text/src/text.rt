@@ -1,6 +1,6 @@
 //! A text: its code points, their count, and whether all are ASCII.
 
-ghost use Rattle.std.specs.Prelude.{◌≡◌, ◌≤◌, ◌==◌, List, [], ◌∷◌, ◌++◌, length, drop, chars, encode_utf8_all, string_bytes, slice_range, IfOk, OnOk, OnErr, IsOkUnless, true, All, ◌<◌};
+ghost use Rattle.std.specs.Prelude.{◌≡◌, ◌≤◌, ◌==◌, [], ◌∷◌, ◌++◌, length, drop, chars, encode_utf8_all, slice_range, IfOk, OnOk, OnErr, IsOkUnless, true};
 ghost use Rattle.std.specs.Str.{IsCharBoundary};
 ghost use Rattle.py_text.specs.Mark.{all_ascii};
 
