@@ -1,0 +1,50 @@
+-- Numbers as bytes: digits of base 256, in two's complement where signed.
+use Rattle.std.specs.Prelude.{ℕ, zero, suc, ◌*◌, ◌-◌, ◌%◌, ◌^◌, ℤ, pos, negsuc, ◌-ℤ◌, Bool, true, false, nat_lt, nat_le, not, List, [], ◌∷◌, length, reverse, Result, Ok, Err, if◌then◌else◌}
+use Rattle.std.specs.Int.Digits.{number_from_digits}
+use Rattle.py_base.specs.declared.error.PyError.{PyError}
+use Rattle.py_base.specs.declared.error.PyError.TheVariants.{NegativeToUnsigned, IntTooBig}
+use Rattle.py_int.specs.declared.bytes.ArgByteOrder.{ArgByteOrder}
+use Rattle.py_int.specs.declared.bytes.ArgByteOrder.TheVariants.{Big, Little}
+use Rattle.py_int.specs.Division.{floor_of}
+
+-- turns bytes in an order into bytes with the highest first, and back
+abbrev pub in_order : ArgByteOrder → List ℕ → List ℕ
+in_order Big bytes = bytes
+in_order Little bytes = reverse bytes
+
+-- n, or n - m where n is in the upper half of the numbers below m
+abbrev pub complemented : ℕ → ℕ → ℤ
+complemented m n = if nat_lt (2 * n) m then pos n else pos n -ℤ pos m
+
+-- the number that bytes spell, the highest first
+abbrev pub number_of : Bool → List ℕ → ℤ
+number_of false bytes = pos (number_from_digits 256 bytes)
+number_of true bytes = complemented (256 ^ length bytes) (number_from_digits 256 bytes)
+
+-- the lowest digit of z in base 256, which is never negative
+abbrev pub low_byte : ℤ → ℕ
+low_byte (pos n) = n % 256
+low_byte (negsuc n) = 255 - n % 256
+
+-- k digits of z in base 256, the lowest first
+abbrev pub low_bytes : ℕ → ℤ → List ℕ
+low_bytes zero z = []
+low_bytes (suc k) z = low_byte z ∷ low_bytes k (floor_of z 256)
+
+-- k bytes of z in an order
+abbrev pub bytes_in : ArgByteOrder → ℕ → ℤ → List ℕ
+bytes_in Little k z = low_bytes k z
+bytes_in Big k z = reverse (low_bytes k z)
+
+-- k bytes hold z: without a sign from 0 to 256^k - 1, with a sign from -256^k / 2 to 256^k / 2 - 1
+abbrev pub holds : Bool → ℕ → ℤ → Bool
+holds false k (pos n) = nat_lt n (256 ^ k)
+holds false k (negsuc n) = false
+holds true k (pos n) = nat_lt (2 * n) (256 ^ k)
+holds true k (negsuc n) = nat_le (2 * suc n) (256 ^ k)
+
+-- negative, and to be written without a sign
+abbrev pub lacks_sign : Bool → ℤ → Bool
+lacks_sign false (negsuc n) = true
+lacks_sign false (pos n) = false
+lacks_sign true z = false

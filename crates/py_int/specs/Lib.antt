@@ -1,0 +1,11 @@
+pub mod Bits
+pub mod Bytes
+pub mod Division
+pub mod Laws
+pub mod Literals
+pub mod Numbers
+pub mod Powers
+pub mod Residues
+pub mod Rounding
+pub mod Sizes
+pub mod Truths

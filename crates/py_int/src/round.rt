@@ -1,0 +1,58 @@
+//! Rounding to tens, hundreds and so on: `round` of "Built-in Functions" of the Python Library
+//! Reference.
+
+ghost use Rattle.std.specs.Prelude.{◌≡◌, ◌<◌, ◌≤◌, ◌*◌, ◌^◌, ℤ, pos, neg_ℤ, ◌<ℤ◌, ◌≤ℤ◌, IfSome, IfNone, Ok, Err};
+ghost use Rattle.std.specs.Prelude.{unsigned_abs};
+ghost use Rattle.py_int.specs.Numbers.{Carries};
+ghost use Rattle.py_int.specs.Rounding.{nearest, rounded};
+
+use crate::number::PyInt;
+use py_base::{PyError, PyResult};
+
+// The multiple of `unit` nearest to `size`, a half going to the even quotient.
+fn nearest_multiple(size: u128, unit: u128) -> u128
+    requires size { size ≤ 2 ^ 127 }
+    requires some { 0 < unit }
+    requires unit { unit < 2 ^ 127 }
+    ensures { result ≡ unit * nearest size unit }
+{
+    let quotient = size / unit;
+    let twice = 2 * (size % unit);
+    if twice > unit || (twice == unit && quotient % 2 == 1) {
+        unit * quotient + unit
+    } else {
+        unit * quotient
+    }
+}
+
+impl PyInt {
+    /// `round(self, ndigits)`: with a negative count of digits the nearest multiple of that power of
+    /// ten, a half going to the even quotient; else the number itself.
+    pub fn round(&self, ndigits: Option<PyInt>) -> PyResult<PyInt>
+        ensures none { IfNone ndigits (result ≡ Ok self.now) }
+        ensures kept { IfSome ndigits (λ d. pos 0 ≤ℤ d → result ≡ Ok self.now) }
+        ensures cut { IfSome ndigits (λ d. d <ℤ pos 0 → Carries (rounded self.now (unsigned_abs d)) result) }
+    {
+        let Some(ndigits) = ndigits else {
+            return Ok(*self);
+        };
+        let value = self.as_i128();
+        if ndigits.as_i128() >= 0 {
+            return Ok(*self);
+        }
+        let digits = ndigits.as_i128().unsigned_abs();
+        if digits > 38 {
+            return Ok(PyInt::from(0i128));
+        }
+        let size = nearest_multiple(value.unsigned_abs(), 10u128.pow(digits as u32));
+        if value >= 0 {
+            PyInt::try_from_u128(size)
+        } else if size == 0 {
+            Ok(PyInt::from(0i128))
+        } else if size > 1 << 127 {
+            Err(PyError::IntTooWide)
+        } else {
+            Ok(PyInt::from(-1 - (size - 1) as i128))
+        }
+    }
+}

@@ -1,0 +1,70 @@
+//! Shifts: "Bitwise Operations on Integer Types" of the Python Library Reference.
+
+ghost use Rattle.std.specs.Prelude.{◌≡◌, ℤ, pos, ◌<ℤ◌, ◌≤ℤ◌, Ok, Err};
+ghost use Rattle.std.specs.Prelude.{unsigned_abs};
+ghost use Rattle.py_base.specs.declared.error.PyError.TheVariants.{NegativeShift};
+ghost use Rattle.py_int.specs.Numbers.{Carries};
+ghost use Rattle.py_int.specs.Bits.{shifted_left, shifted_right};
+
+use crate::number::PyInt;
+use py_base::{PyError, PyResult};
+
+// 2^127 has one digit more than the greatest number.
+const DIGITS: i128 = 127;
+
+impl PyInt {
+    /// `self << bits`, or `NegativeShift`. 0 may be shifted by any count.
+    pub fn lshift(&self, bits: PyInt) -> PyResult<PyInt>
+        ensures negative { bits <ℤ pos 0 → result ≡ Err NegativeShift }
+        ensures value { pos 0 ≤ℤ bits → Carries (shifted_left self.now (unsigned_abs bits)) result }
+    {
+        let value = self.as_i128();
+        let count = bits.as_i128();
+        if count < 0 {
+            Err(PyError::NegativeShift)
+        } else if value == 0 {
+            Ok(*self)
+        } else if count > DIGITS {
+            Err(PyError::IntTooWide)
+        } else if count == DIGITS {
+            if value == -1 {
+                Ok(PyInt::from(i128::MIN))
+            } else {
+                Err(PyError::IntTooWide)
+            }
+        } else {
+            self.mul(PyInt::from(1i128 << count as u32))
+        }
+    }
+
+    /// `bits << self` with `bits` as the base.
+    pub fn rlshift(&self, base: PyInt) -> PyResult<PyInt>
+        ensures negative { self.now <ℤ pos 0 → result ≡ Err NegativeShift }
+        ensures value { pos 0 ≤ℤ self.now → Carries (shifted_left base (unsigned_abs self.now)) result }
+    {
+        base.lshift(*self)
+    }
+
+    /// `self >> bits`, or `NegativeShift`. Any count is good: it leaves 0, or -1 of a negative number.
+    pub fn rshift(&self, bits: PyInt) -> PyResult<PyInt>
+        ensures negative { bits <ℤ pos 0 → result ≡ Err NegativeShift }
+        ensures value { pos 0 ≤ℤ bits → result ≡ Ok (shifted_right self.now (unsigned_abs bits)) }
+    {
+        let count = bits.as_i128();
+        if count < 0 {
+            Err(PyError::NegativeShift)
+        } else if count > DIGITS {
+            Ok(PyInt::from(if self.as_i128() < 0 { -1i128 } else { 0 }))
+        } else {
+            Ok(PyInt::from(self.as_i128() >> count as u32))
+        }
+    }
+
+    /// `base >> self`.
+    pub fn rrshift(&self, base: PyInt) -> PyResult<PyInt>
+        ensures negative { self.now <ℤ pos 0 → result ≡ Err NegativeShift }
+        ensures value { pos 0 ≤ℤ self.now → result ≡ Ok (shifted_right base (unsigned_abs self.now)) }
+    {
+        base.rshift(*self)
+    }
+}
