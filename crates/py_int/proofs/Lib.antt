@@ -1,1 +1,5 @@
 pub mod Floors
+pub mod Lengths
+pub mod Nearest
+pub mod Shifts
+pub mod TwosComplement

@@ -1,8 +1,6 @@
 -- Numbers as bytes: digits of base 256, in two's complement where signed.
-use Rattle.std.specs.Prelude.{ℕ, zero, suc, ◌*◌, ◌-◌, ◌%◌, ◌^◌, ℤ, pos, negsuc, ◌-ℤ◌, Bool, true, false, nat_lt, nat_le, not, List, [], ◌∷◌, length, reverse, Result, Ok, Err, if◌then◌else◌}
+use Rattle.std.specs.Prelude.{ℕ, zero, suc, ◌*◌, ◌-◌, ◌%◌, ◌^◌, ℤ, pos, negsuc, ◌-ℤ◌, Bool, true, false, nat_lt, nat_le, List, [], ◌∷◌, length, reverse, map, if◌then◌else◌}
 use Rattle.std.specs.Int.Digits.{number_from_digits}
-use Rattle.py_base.specs.declared.error.PyError.{PyError}
-use Rattle.py_base.specs.declared.error.PyError.TheVariants.{NegativeToUnsigned, IntTooBig}
 use Rattle.py_int.specs.declared.bytes.ArgByteOrder.{ArgByteOrder}
 use Rattle.py_int.specs.declared.bytes.ArgByteOrder.TheVariants.{Big, Little}
 use Rattle.py_int.specs.Division.{floor_of}
@@ -48,3 +46,14 @@ abbrev pub lacks_sign : Bool → ℤ → Bool
 lacks_sign false (negsuc n) = true
 lacks_sign false (pos n) = false
 lacks_sign true z = false
+
+-- signed bytes whose highest bit is 1
+abbrev pub is_high : Bool → List ℕ → Bool
+is_high false bytes = false
+is_high true [] = false
+is_high true (b ∷ bs) = nat_le 128 b
+
+-- the bytes, or how far each is below 255
+abbrev pub digits_if : Bool → List ℕ → List ℕ
+digits_if false bytes = bytes
+digits_if true bytes = map (λ b. 255 - b) bytes

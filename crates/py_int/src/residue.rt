@@ -12,7 +12,13 @@ pub(crate) fn residue_of(z: i128, m: u128) -> u128
     ensures small { result < m }
 {
     let rest = z.unsigned_abs() % m;
-    if z >= 0 || rest == 0 { rest } else { m - rest }
+    if z >= 0 {
+        rest
+    } else if rest == 0 {
+        0
+    } else {
+        m - rest
+    }
 }
 
 // The number that leaves the same residue by b, and is 0 or has the sign of b.

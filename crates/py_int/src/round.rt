@@ -4,7 +4,7 @@
 ghost use Rattle.std.specs.Prelude.{◌≡◌, ◌<◌, ◌≤◌, ◌*◌, ◌^◌, ℤ, pos, neg_ℤ, ◌<ℤ◌, ◌≤ℤ◌, IfSome, IfNone, Ok, Err};
 ghost use Rattle.std.specs.Prelude.{unsigned_abs};
 ghost use Rattle.py_int.specs.Numbers.{Carries};
-ghost use Rattle.py_int.specs.Rounding.{nearest, rounded};
+ghost use Rattle.py_int.specs.Rounding.{nearest, rounded, with_sign_of};
 
 use crate::number::PyInt;
 use py_base::{PyError, PyResult};
@@ -25,6 +25,31 @@ fn nearest_multiple(size: u128, unit: u128) -> u128
     }
 }
 
+// 10^digits, which is below 2^127.
+fn power_of_ten(digits: u32) -> u128
+    requires { digits ≤ 38 }
+    ensures value { result ≡ 10 ^ digits }
+    ensures some { 0 < result }
+    ensures small { result < 2 ^ 127 }
+{
+    10u128.pow(digits)
+}
+
+// `size` with the sign of `value`.
+fn give_sign(size: u128, value: i128) -> PyResult<PyInt>
+    ensures { Carries (with_sign_of value size) result }
+{
+    if value >= 0 {
+        PyInt::try_from_u128(size)
+    } else if size == 0 {
+        Ok(PyInt::from(0i128))
+    } else if size > 1 << 127 {
+        Err(PyError::IntTooWide)
+    } else {
+        Ok(PyInt::from(-1 - (size - 1) as i128))
+    }
+}
+
 impl PyInt {
     /// `round(self, ndigits)`: with a negative count of digits the nearest multiple of that power of
     /// ten, a half going to the even quotient; else the number itself.
@@ -33,26 +58,26 @@ impl PyInt {
         ensures kept { IfSome ndigits (λ d. pos 0 ≤ℤ d → result ≡ Ok self.now) }
         ensures cut { IfSome ndigits (λ d. d <ℤ pos 0 → Carries (rounded self.now (unsigned_abs d)) result) }
     {
-        let Some(ndigits) = ndigits else {
-            return Ok(*self);
-        };
-        let value = self.as_i128();
-        if ndigits.as_i128() >= 0 {
+        match ndigits {
+            None => Ok(*self),
+            Some(ndigits) => self.round_to(ndigits),
+        }
+    }
+
+    fn round_to(&self, ndigits: PyInt) -> PyResult<PyInt>
+        ensures kept { pos 0 ≤ℤ ndigits → result ≡ Ok self.now }
+        ensures cut { ndigits <ℤ pos 0 → Carries (rounded self.now (unsigned_abs ndigits)) result }
+    {
+        let count = ndigits.as_i128();
+        if count >= 0 {
             return Ok(*self);
         }
-        let digits = ndigits.as_i128().unsigned_abs();
+        let value = self.as_i128();
+        let digits = count.unsigned_abs();
         if digits > 38 {
             return Ok(PyInt::from(0i128));
         }
-        let size = nearest_multiple(value.unsigned_abs(), 10u128.pow(digits as u32));
-        if value >= 0 {
-            PyInt::try_from_u128(size)
-        } else if size == 0 {
-            Ok(PyInt::from(0i128))
-        } else if size > 1 << 127 {
-            Err(PyError::IntTooWide)
-        } else {
-            Ok(PyInt::from(-1 - (size - 1) as i128))
-        }
+        let unit = power_of_ten(digits as u32);
+        give_sign(nearest_multiple(value.unsigned_abs(), unit), value)
     }
 }

@@ -1,6 +1,6 @@
 //! Shifts: "Bitwise Operations on Integer Types" of the Python Library Reference.
 
-ghost use Rattle.std.specs.Prelude.{◌≡◌, ℤ, pos, ◌<ℤ◌, ◌≤ℤ◌, Ok, Err};
+ghost use Rattle.std.specs.Prelude.{◌≡◌, ◌<◌, ◌^◌, ℤ, pos, ◌<ℤ◌, ◌≤ℤ◌, Ok, Err};
 ghost use Rattle.std.specs.Prelude.{unsigned_abs};
 ghost use Rattle.py_base.specs.declared.error.PyError.TheVariants.{NegativeShift};
 ghost use Rattle.py_int.specs.Numbers.{Carries};
@@ -11,6 +11,21 @@ use py_base::{PyError, PyResult};
 
 // 2^127 has one digit more than the greatest number.
 const DIGITS: i128 = 127;
+
+fn power_of_two(exponent: u32) -> PyInt
+    requires { exponent < 127 }
+    ensures { result ≡ pos (2 ^ exponent) }
+{
+    PyInt::from(1i128 << exponent)
+}
+
+// `value >> count`.
+fn down(value: i128, count: u32) -> PyInt
+    requires { count < 128 }
+    ensures { result ≡ shifted_right value count }
+{
+    PyInt::from(value >> count)
+}
 
 impl PyInt {
     /// `self << bits`, or `NegativeShift`. 0 may be shifted by any count.
@@ -26,14 +41,12 @@ impl PyInt {
             Ok(*self)
         } else if count > DIGITS {
             Err(PyError::IntTooWide)
-        } else if count == DIGITS {
-            if value == -1 {
-                Ok(PyInt::from(i128::MIN))
-            } else {
-                Err(PyError::IntTooWide)
-            }
+        } else if count < DIGITS {
+            self.mul(power_of_two(count as u32))
+        } else if value == -1 {
+            Ok(PyInt::from(i128::MIN))
         } else {
-            self.mul(PyInt::from(1i128 << count as u32))
+            Err(PyError::IntTooWide)
         }
     }
 
@@ -54,9 +67,9 @@ impl PyInt {
         if count < 0 {
             Err(PyError::NegativeShift)
         } else if count > DIGITS {
-            Ok(PyInt::from(if self.as_i128() < 0 { -1i128 } else { 0 }))
+            Ok(down(self.as_i128(), 127))
         } else {
-            Ok(PyInt::from(self.as_i128() >> count as u32))
+            Ok(down(self.as_i128(), count as u32))
         }
     }
 

@@ -1,8 +1,7 @@
 //! Truth values, Python's `bool`.
 
 ghost use Rattle.std.specs.Prelude.{◌≡◌, Bool, ◌&&◌, ◌||◌};
-ghost use Rattle.std.specs.Bool.{xor};
-ghost use Rattle.py_int.specs.Truths.{truth_number, truth_text};
+ghost use Rattle.py_int.specs.Truths.{differ, truth_number, truth_text};
 
 use crate::number::PyInt;
 use std::marker::Model;
@@ -61,7 +60,7 @@ impl PyBool {
 
     /// `self ^ other`.
     pub fn xor(&self, other: PyBool) -> PyBool
-        ensures { result ≡ xor self.now other }
+        ensures { result ≡ differ self.now other }
     {
         PyBool::new(self.value != other.value)
     }
