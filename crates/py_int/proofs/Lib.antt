@@ -1,3 +1,4 @@
+pub mod ByteDigits
 pub mod Floors
 pub mod Lengths
 pub mod Nearest

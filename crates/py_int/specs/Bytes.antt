@@ -34,12 +34,16 @@ abbrev pub bytes_in : ArgByteOrder → ℕ → ℤ → List ℕ
 bytes_in Little k z = low_bytes k z
 bytes_in Big k z = reverse (low_bytes k z)
 
--- k bytes hold z: without a sign from 0 to 256^k - 1, with a sign from -256^k / 2 to 256^k / 2 - 1
+-- from 0 to m - 1 without a sign, from -m / 2 to m / 2 - 1 with a sign
+abbrev pub is_within : Bool → ℕ → ℤ → Bool
+is_within false m (pos n) = nat_lt n m
+is_within false m (negsuc n) = false
+is_within true m (pos n) = nat_lt (2 * n) m
+is_within true m (negsuc n) = nat_le (2 * suc n) m
+
+-- k bytes hold z
 abbrev pub holds : Bool → ℕ → ℤ → Bool
-holds false k (pos n) = nat_lt n (256 ^ k)
-holds false k (negsuc n) = false
-holds true k (pos n) = nat_lt (2 * n) (256 ^ k)
-holds true k (negsuc n) = nat_le (2 * suc n) (256 ^ k)
+holds signed k z = is_within signed (256 ^ k) z
 
 -- negative, and to be written without a sign
 abbrev pub lacks_sign : Bool → ℤ → Bool

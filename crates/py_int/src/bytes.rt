@@ -2,12 +2,15 @@
 //! Reference.
 
 ghost use Rattle.std.specs.Prelude.{◌≡◌, ◌<◌, ◌≤◌, ◌^◌, true, false, length, slice_index, IfOk, IfErr, MatchOption, Err};
+ghost use Rattle.std.specs.Int.{complement_if};
 ghost use Rattle.std.specs.Int.Digits.{number_from_digits};
 ghost use Rattle.py_base.specs.declared.error.PyError.TheVariants.{NoMemory, NegativeToUnsigned, IntTooBig};
 ghost use Rattle.py_int.specs.Numbers.{Carries};
-ghost use Rattle.py_int.specs.Bytes.{in_order, number_of, bytes_in, holds, lacks_sign, low_byte, low_bytes, is_high, digits_if};
+ghost use Rattle.py_int.specs.Division.{floor_of};
+ghost use Rattle.py_int.specs.Bytes.{in_order, number_of, bytes_in, holds, lacks_sign, is_within, low_byte, low_bytes, is_high, digits_if};
 
 use crate::number::PyInt;
+use crate::shift::down;
 use py_base::{PyError, PyResult};
 use std::alloc::Global;
 
@@ -31,6 +34,15 @@ fn byte_at(bytes: &[u8], byteorder: ArgByteOrder, place: usize) -> u8
     }
 }
 
+// The digit `place` of the number that the bytes spell, or how far it is below 255 if `turned`.
+fn digit_at(bytes: &[u8], byteorder: ArgByteOrder, place: usize, turned: bool) -> u8
+    requires { place < length bytes.now }
+    ensures { result ≡ slice_index (digits_if turned (in_order byteorder bytes.now)) place }
+{
+    let byte = byte_at(bytes, byteorder, place);
+    if turned { 255 - byte } else { byte }
+}
+
 // The bytes spell a number below 0.
 fn spells_negative(bytes: &[u8], byteorder: ArgByteOrder, signed: bool) -> bool
     ensures { result ≡ is_high signed (in_order byteorder bytes.now) }
@@ -45,8 +57,7 @@ fn size_of(bytes: &[u8], byteorder: ArgByteOrder, turned: bool) -> Option<u128>
 {
     let mut size: u128 = 0;
     for place in 0..bytes.len() {
-        let byte = byte_at(bytes, byteorder, place);
-        let digit = if turned { 255 - byte } else { byte };
+        let digit = digit_at(bytes, byteorder, place, turned);
         if size >= 1 << 119 {
             return None;
         }
@@ -55,34 +66,46 @@ fn size_of(bytes: &[u8], byteorder: ArgByteOrder, turned: bool) -> Option<u128>
     Some(size)
 }
 
-// What `length` bytes hold.
+// The number is below `limit`, or within its half where signed.
+fn within(value: i128, limit: u128, signed: bool) -> bool
+    ensures { result ≡ is_within signed limit value }
+{
+    if signed {
+        if value >= 0 {
+            2 * (value as u128) < limit
+        } else {
+            value.unsigned_abs() <= limit / 2
+        }
+    } else {
+        value >= 0 && (value as u128) < limit
+    }
+}
+
+// `length` bytes hold the number; 16 hold every one.
 fn is_held(value: i128, length: usize, signed: bool) -> bool
     ensures { result ≡ holds signed length value }
 {
-    if value < 0 && !signed {
-        return false;
-    }
     if length >= 16 {
-        return true;
-    }
-    let limit = 256u128.pow(length as u32);
-    if value < 0 {
-        value.unsigned_abs() <= limit / 2
-    } else if signed {
-        2 * (value as u128) < limit
+        signed || value >= 0
     } else {
-        (value as u128) < limit
+        within(value, 256u128.pow(length as u32), signed)
     }
 }
 
-fn low_byte_of(value: i128) -> u8
+fn low_byte_of(value: PyInt) -> u8
     ensures { result ≡ low_byte value }
 {
-    value.rem_euclid(256) as u8
+    value.as_i128().rem_euclid(256) as u8
+}
+
+fn without_low_byte(value: PyInt) -> PyInt
+    ensures { result ≡ floor_of value 256 }
+{
+    down(value.as_i128(), 8)
 }
 
 // `length` bytes of the number, the lowest first.
-fn low_bytes_of(alloc: Global, value: i128, length: usize) -> PyResult<Vec<u8>>
+fn low_bytes_of(alloc: Global, value: PyInt, length: usize) -> PyResult<Vec<u8>>
     ensures ok { IfOk result (λ v. v.items ≡ low_bytes length value) }
     ensures err { IfErr result (λ e. e ≡ NoMemory) }
 {
@@ -90,9 +113,22 @@ fn low_bytes_of(alloc: Global, value: i128, length: usize) -> PyResult<Vec<u8>>
     let mut rest = value;
     for place in 0..length {
         bytes.push(low_byte_of(rest))?;
-        rest >>= 8;
+        rest = without_low_byte(rest);
     }
     Ok(bytes)
+}
+
+// The number, or -1 less the number.
+fn complement(size: u128, negative: bool) -> PyInt
+    requires { size < 2 ^ 127 }
+    ensures { result ≡ complement_if negative size }
+{
+    let value = size as i128;
+    if negative {
+        PyInt::from(-1 - value)
+    } else {
+        PyInt::from(value)
+    }
 }
 
 impl PyInt {
@@ -104,10 +140,7 @@ impl PyInt {
         let negative = spells_negative(bytes, byteorder, signed);
         match size_of(bytes, byteorder, negative) {
             None => Err(PyError::IntTooWide),
-            Some(size) => {
-                let value = size as i128;
-                Ok(PyInt::from(if negative { -1 - value } else { value }))
-            }
+            Some(size) => Ok(complement(size, negative)),
         }
     }
 
@@ -132,7 +165,7 @@ impl PyInt {
         if !is_held(value, length, signed) {
             return Err(PyError::IntTooBig);
         }
-        let mut bytes = low_bytes_of(alloc, value, length)?;
+        let mut bytes = low_bytes_of(alloc, *self, length)?;
         match byteorder {
             ArgByteOrder::Little => Ok(bytes),
             ArgByteOrder::Big => {

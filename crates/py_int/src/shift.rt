@@ -20,7 +20,7 @@ fn power_of_two(exponent: u32) -> PyInt
 }
 
 // `value >> count`.
-fn down(value: i128, count: u32) -> PyInt
+pub(crate) fn down(value: i128, count: u32) -> PyInt
     requires { count < 128 }
     ensures { result ≡ shifted_right value count }
 {
