@@ -1,5 +1,6 @@
 pub mod Bits
 pub mod Bytes
+pub mod Capped
 pub mod Division
 pub mod Laws
 pub mod Literals

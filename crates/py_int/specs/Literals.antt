@@ -69,11 +69,14 @@ numeral base (z ∷ c ∷ cs) =
     else without_prefix base (z ∷ c ∷ cs)
 numeral base cs = without_prefix base cs
 
+abbrev pub negated : ℕ → ℤ
+negated n = neg_ℤ (pos n)
+
 -- a numeral, with a sign before it or none
 abbrev pub signed_numeral : ℕ → List ℕ → Option ℤ
 signed_numeral base [] = None
 signed_numeral base (c ∷ cs) =
-    if c == 45 then option_map (λ n. neg_ℤ (pos n)) (numeral base cs)
+    if c == 45 then option_map negated (numeral base cs)
     else if c == 43 then option_map pos (numeral base cs)
     else option_map pos (numeral base (c ∷ cs))
 

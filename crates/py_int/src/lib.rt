@@ -6,6 +6,7 @@ mod arithmetic;
 mod bits;
 mod bytes;
 mod divide;
+mod literal;
 mod number;
 mod parts;
 mod residue;

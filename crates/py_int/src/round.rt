@@ -36,7 +36,7 @@ fn power_of_ten(digits: u32) -> u128
 }
 
 // `size` with the sign of `value`.
-fn give_sign(size: u128, value: i128) -> PyResult<PyInt>
+pub(crate) fn give_sign(size: u128, value: i128) -> PyResult<PyInt>
     ensures { Carries (with_sign_of value size) result }
 {
     if value >= 0 {
