@@ -57,10 +57,10 @@ residue_rest (pos a) m p h e = absurd (omega (arith, ints))
 residue_rest (negsuc a) m p h e =
     elim (step_of a m p) [ turns i j k ↦ absurd (e i) | goes_on i j k ↦ omega arith ]
 
-toward_zero : (r b : ℕ) → r ≡ 0 → toward r (negsuc b) ≡ pos 0
+pub toward_zero : (r b : ℕ) → r ≡ 0 → toward r (negsuc b) ≡ pos 0
 toward_zero r b h = rw h refl
 
-toward_more : (r b : ℕ) → 0 < r → toward r (negsuc b) ≡ negsuc (b - r)
+pub toward_more : (r b : ℕ) → 0 < r → toward r (negsuc b) ≡ negsuc (b - r)
 toward_more r b h = let e : eqb r 0 ≡ false = grind (arith, nat_tests) in rw e refl
 
 toward-neg : (z : ℤ) (b : ℕ) → floor_mod z (negsuc b) ≡ toward (residue z (suc b)) (negsuc b)

@@ -1,7 +1,11 @@
 pub mod ByteDigits
+pub mod Euclid
 pub mod Floors
 pub mod Lengths
 pub mod Nearest
+pub mod PowerLaws
 pub mod Readings
+pub mod ResidueLaws
 pub mod Shifts
 pub mod TwosComplement
+pub mod UnderModulus

@@ -8,7 +8,7 @@ use crate::number::PyInt;
 use py_base::{PyError, PyResult};
 
 // The number of a checked operation.
-fn carry(value: Option<i128>) -> PyResult<PyInt>
+pub(crate) fn carry(value: Option<i128>) -> PyResult<PyInt>
     ensures { Gives value result }
 {
     match value {

@@ -9,7 +9,7 @@ ghost use Rattle.py_int.specs.Numbers.{Carries};
 ghost use Rattle.py_int.specs.Division.{floor_div, floor_mod, divided};
 
 use crate::number::PyInt;
-use crate::residue::{residue_of, sign_toward};
+use crate::residue::{rest_by, signed_rest};
 use py_base::{PyError, PyResult, ZeroKind};
 
 // The floor of a / b. Only -2^127 / -1 is too wide.
@@ -32,11 +32,11 @@ fn quotient(a: i128, b: i128) -> PyResult<PyInt>
 }
 
 // What the floor of a / b leaves, which has the sign of b.
-fn remainder(a: i128, b: i128) -> PyInt
+fn remainder(a: PyInt, b: PyInt) -> PyInt
     requires { b ≢ pos 0 }
     ensures { result ≡ floor_mod a b }
 {
-    sign_toward(residue_of(a, b.unsigned_abs()), b)
+    signed_rest(rest_by(a, b), b)
 }
 
 impl PyInt {
@@ -67,7 +67,7 @@ impl PyInt {
         if other.as_i128() == 0 {
             return Err(PyError::ZeroDivision(ZeroKind::Modulo));
         }
-        Ok(remainder(self.as_i128(), other.as_i128()))
+        Ok(remainder(*self, other))
     }
 
     /// `other % self`.
@@ -87,7 +87,7 @@ impl PyInt {
             return Err(PyError::ZeroDivision(ZeroKind::Both));
         }
         match quotient(self.as_i128(), other.as_i128()) {
-            Ok(floor) => Ok((floor, remainder(self.as_i128(), other.as_i128()))),
+            Ok(floor) => Ok((floor, remainder(*self, other))),
             Err(error) => Err(error),
         }
     }
