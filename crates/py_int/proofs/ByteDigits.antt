@@ -83,12 +83,12 @@ turned_sum (b ∷ bs) h =
     let f : number_from_digits 256 ((255 - b) ∷ map (λ c. 255 - c) bs) ≡ (255 - b) * 256 ^ length bs + number_from_digits 256 (map (λ c. 255 - c) bs) = first_is (255 - b) (map (λ c. 255 - c) bs) ∙ ap (λ n. (255 - b) * 256 ^ n + number_from_digits 256 (map (λ c. 255 - c) bs)) l in
     omega (arith, first_is b bs, turned_sum bs h.1)
 
-high_spells : (m n c : ℕ) → n + c + 1 ≡ m → m ≤ 2 * n → complemented m n ≡ negsuc c
+pub high_spells : (m n c : ℕ) → n + c + 1 ≡ m → m ≤ 2 * n → complemented m n ≡ negsuc c
 high_spells m n c e h =
     let t : nat_lt (2 * n) m ≡ false = grind (arith, nat_tests) in
     rw t (omega (arith, ints))
 
-low_spells : (m n : ℕ) → 2 * n < m → complemented m n ≡ pos n
+pub low_spells : (m n : ℕ) → 2 * n < m → complemented m n ≡ pos n
 low_spells m n h = let t : nat_lt (2 * n) m ≡ true = grind (arith, nat_tests) in rw t refl
 
 signed_spells : (high : Bool) (b : ℕ) (bs : List ℕ) → AllBelowBase 256 (b ∷ bs) → nat_le 128 b ≡ high → number_of true (b ∷ bs) ≡ complement_if high (number_from_digits 256 (digits_if high (b ∷ bs)))

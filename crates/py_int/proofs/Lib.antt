@@ -1,8 +1,11 @@
+pub mod BitLaws
 pub mod ByteDigits
+pub mod ByteLaws
 pub mod Euclid
 pub mod Floors
 pub mod Lengths
 pub mod Nearest
+pub mod OnePair
 pub mod PowerLaws
 pub mod Readings
 pub mod ResidueLaws

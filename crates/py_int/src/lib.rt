@@ -7,16 +7,22 @@ mod bits;
 mod bytes;
 mod divide;
 mod inverse;
+pub mod laws;
 mod literal;
+mod made;
 mod modular;
 mod number;
 mod parts;
 mod power;
+mod primitive;
 mod residue;
 mod round;
 mod shift;
+#[cfg(test)]
+mod tests;
 mod truth;
 
 pub use bytes::ArgByteOrder;
 pub use number::{PyInt, PyIntRef};
+pub use primitive::Primitive;
 pub use truth::PyBool;
