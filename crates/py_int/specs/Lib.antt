@@ -8,5 +8,6 @@ pub mod Numbers
 pub mod Powers
 pub mod Residues
 pub mod Rounding
+pub mod Rows
 pub mod Sizes
 pub mod Truths

@@ -1,8 +1,7 @@
-//! Worked rows and each call on its happy path; expected values come from CPython.
+//! Worked rows, and each call once on its happy path; expected values come from CPython.
 
 use super::*;
-use py_base::{CarryKind, PrimitiveName, PyError, PyResult, ZeroKind};
-use std::alloc::Global;
+use py_base::{PrimitiveName, PyError, PyResult, ZeroKind};
 
 const LEAST: i128 = i128::MIN;
 
@@ -10,6 +9,47 @@ const GREATEST: i128 = i128::MAX;
 
 fn int(value: i128) -> PyInt {
     PyInt::from(value)
+}
+
+// The number, or the refusal of one that is too wide.
+fn wanted(value: Option<i128>) -> PyResult<PyInt> {
+    match value {
+        Some(value) => Ok(int(value)),
+        None => Err(PyError::IntTooWide),
+    }
+}
+
+// a, b, and `a + b`, `a - b`, `a * b`.
+const SUMS: [(i128, i128, Option<i128>, Option<i128>, Option<i128>); 4] = [
+    (5, -7, Some(-2), Some(12), Some(-35)),
+    (GREATEST, 1, None, Some(GREATEST - 1), Some(GREATEST)),
+    (LEAST, -1, None, Some(LEAST + 1), None),
+    (1 << 64, -1 << 63, Some(1 << 63), Some(3 << 63), Some(LEAST)),
+];
+
+#[test]
+fn sums(rt: HostRuntime) {
+    for (a, b, sum, difference, product) in &SUMS {
+        assert_eq!(rt; int(*a).add(int(*b)), wanted(*sum));
+        assert_eq!(rt; int(*a).sub(int(*b)), wanted(*difference));
+        assert_eq!(rt; int(*b).rsub(int(*a)), wanted(*difference));
+        assert_eq!(rt; int(*a).mul(int(*b)), wanted(*product));
+    }
+}
+
+// a, and `-a`, `abs(a)`.
+const SIGNS: [(i128, Option<i128>, Option<i128>); 3] = [
+    (3, Some(-3), Some(3)),
+    (-3, Some(3), Some(3)),
+    (LEAST, None, None),
+];
+
+#[test]
+fn signs(rt: HostRuntime) {
+    for (a, negative, absolute) in &SIGNS {
+        assert_eq!(rt; int(*a).neg(), wanted(*negative));
+        assert_eq!(rt; int(*a).abs(), wanted(*absolute));
+    }
 }
 
 // a, b, and what `divmod` answers.
@@ -26,14 +66,24 @@ const DIVISIONS: [(i128, i128, i128, i128); 7] = [
 #[test]
 fn divisions(rt: HostRuntime) {
     for (a, b, quotient, rest) in &DIVISIONS {
-        let pair = Ok((int(*quotient), int(*rest)));
-        assert_eq!(rt; int(*a).divmod(int(*b)), pair);
-        assert_eq!(rt; int(*b).rdivmod(int(*a)), pair);
         assert_eq!(rt; int(*a).floordiv(int(*b)), Ok(int(*quotient)));
         assert_eq!(rt; int(*b).rfloordiv(int(*a)), Ok(int(*quotient)));
         assert_eq!(rt; int(*a).mod_(int(*b)), Ok(int(*rest)));
         assert_eq!(rt; int(*b).rmod(int(*a)), Ok(int(*rest)));
     }
+}
+
+#[test]
+fn pairs(rt: HostRuntime) {
+    for (a, b, quotient, rest) in &DIVISIONS {
+        let pair = Ok((int(*quotient), int(*rest)));
+        assert_eq!(rt; int(*a).divmod(int(*b)), pair);
+        assert_eq!(rt; int(*b).rdivmod(int(*a)), pair);
+    }
+}
+
+#[test]
+fn divisions_refused(rt: HostRuntime) {
     assert_eq!(rt; int(LEAST).floordiv(int(-1)), Err(PyError::IntTooWide));
     assert_eq!(rt; int(LEAST).mod_(int(-1)), Ok(int(0)));
     assert_eq!(rt; int(LEAST).divmod(int(-1)), Err(PyError::IntTooWide));
@@ -41,43 +91,37 @@ fn divisions(rt: HostRuntime) {
         int(1).divmod(int(0)),
         Err(PyError::ZeroDivision(ZeroKind::Both))
     );
-    assert_eq!(rt;
-        int(1).mod_(int(0)),
-        Err(PyError::ZeroDivision(ZeroKind::Modulo))
-    );
-    assert_eq!(rt;
-        int(1).floordiv(int(0)),
-        Err(PyError::ZeroDivision(ZeroKind::Division))
-    );
 }
 
-#[test]
-fn sums(rt: HostRuntime) {
-    assert_eq!(rt; int(GREATEST).add(int(-1)), Ok(int(GREATEST - 1)));
-    assert_eq!(rt; int(GREATEST).add(int(1)), Err(PyError::IntTooWide));
-    assert_eq!(rt; int(5).sub(int(7)), Ok(int(-2)));
-    assert_eq!(rt; int(5).rsub(int(7)), Ok(int(2)));
-    assert_eq!(rt; int(1 << 64).mul(int(-1 << 63)), Ok(int(LEAST)));
-    assert_eq!(rt; int(1 << 64).mul(int(1 << 63)), Err(PyError::IntTooWide));
-    assert_eq!(rt; int(LEAST).neg(), Err(PyError::IntTooWide));
-    assert_eq!(rt; int(3).neg(), Ok(int(-3)));
-    assert_eq!(rt; int(-3).abs(), Ok(int(3)));
-    assert_eq!(rt; int(LEAST).abs(), Err(PyError::IntTooWide));
-}
+// a number, a count, and `number << count`.
+const SHIFTS_UP: [(i128, i128, Option<i128>); 6] = [
+    (1, 127, None),
+    (-1, 127, Some(LEAST)),
+    (-1, 128, None),
+    (3, 125, Some(3 << 125)),
+    (0, GREATEST, Some(0)),
+    (5, 4, Some(80)),
+];
+
+// a number, a count, and `number >> count`.
+const SHIFTS_DOWN: [(i128, i128, i128); 5] = [
+    (-5, 1, -3),
+    (-5, GREATEST, -1),
+    (5, 128, 0),
+    (20, 2, 5),
+    (LEAST, 127, -1),
+];
 
 #[test]
 fn shifts(rt: HostRuntime) {
-    assert_eq!(rt; int(1).lshift(int(127)), Err(PyError::IntTooWide));
-    assert_eq!(rt; int(-1).lshift(int(127)), Ok(int(LEAST)));
-    assert_eq!(rt; int(-1).lshift(int(128)), Err(PyError::IntTooWide));
-    assert_eq!(rt; int(3).lshift(int(125)), Ok(int(3 << 125)));
-    assert_eq!(rt; int(0).lshift(int(GREATEST)), Ok(int(0)));
-    assert_eq!(rt; int(4).rlshift(int(5)), Ok(int(80)));
-    assert_eq!(rt; int(1).lshift(int(-1)), Err(PyError::NegativeShift));
-    assert_eq!(rt; int(-5).rshift(int(1)), Ok(int(-3)));
-    assert_eq!(rt; int(-5).rshift(int(GREATEST)), Ok(int(-1)));
-    assert_eq!(rt; int(5).rshift(int(128)), Ok(int(0)));
-    assert_eq!(rt; int(2).rrshift(int(20)), Ok(int(5)));
+    for (number, count, up) in &SHIFTS_UP {
+        assert_eq!(rt; int(*number).lshift(int(*count)), wanted(*up));
+        assert_eq!(rt; int(*count).rlshift(int(*number)), wanted(*up));
+    }
+    for (number, count, down) in &SHIFTS_DOWN {
+        assert_eq!(rt; int(*number).rshift(int(*count)), Ok(int(*down)));
+        assert_eq!(rt; int(*count).rrshift(int(*number)), Ok(int(*down)));
+    }
     assert_eq!(rt; int(1).rshift(int(-1)), Err(PyError::NegativeShift));
 }
 
@@ -88,45 +132,35 @@ fn bits_of_numbers(rt: HostRuntime) {
     assert_eq!(rt; int(-6).xor(int(3)), int(-7));
     assert_eq!(rt; int(5).invert(), int(-6));
     assert_eq!(rt; int(-1).as_u32_mask(), 4294967295);
-    assert_eq!(rt; int((1 << 40) + 7).as_u32_mask(), 7);
     assert_eq!(rt; int(LEAST).bit_length(), 128);
-    assert_eq!(rt; int(0).bit_length(), 0);
-    assert_eq!(rt; int(-255).bit_length(), 8);
     assert_eq!(rt; int(-255).bit_count(), 8);
 }
 
-// a number, digits, and what `round` answers.
-const ROUNDINGS: [(i128, i128, i128); 9] = [
-    (12250, -2, 12200),
-    (-12350, -2, -12400),
-    (5, -40, 0),
-    (5, -1, 0),
-    (15, -1, 20),
-    (25, -1, 20),
-    (-26, -1, -30),
-    (GREATEST, 5, GREATEST),
-    (LEAST, GREATEST, LEAST),
+// a number, a count of digits, and what `round` answers.
+const ROUNDINGS: [(i128, i128, Option<i128>); 11] = [
+    (12250, -2, Some(12200)),
+    (-12350, -2, Some(-12400)),
+    (5, -40, Some(0)),
+    (5, -1, Some(0)),
+    (15, -1, Some(20)),
+    (-26, -1, Some(-30)),
+    (GREATEST, 5, Some(GREATEST)),
+    (GREATEST, -1, None),
+    (GREATEST, -38, None),
+    (GREATEST, -39, Some(0)),
+    (LEAST, GREATEST, Some(LEAST)),
 ];
 
 #[test]
 fn roundings(rt: HostRuntime) {
-    assert_eq!(rt; int(7).round(None), Ok(int(7)));
-    assert_eq!(rt;
-        int(GREATEST).round(Some(int(-1))),
-        Err(PyError::IntTooWide)
-    );
-    assert_eq!(rt; int(GREATEST).round(Some(int(-39))), Ok(int(0)));
-    assert_eq!(rt;
-        int(GREATEST).round(Some(int(-38))),
-        Err(PyError::IntTooWide)
-    );
-    for (number, digits, wanted) in &ROUNDINGS {
-        assert_eq!(rt; int(*number).round(Some(int(*digits))), Ok(int(*wanted)));
+    for (number, digits, rounded) in &ROUNDINGS {
+        assert_eq!(rt; int(*number).round(Some(int(*digits))), wanted(*rounded));
     }
+    assert_eq!(rt; int(7).round(None), Ok(int(7)));
 }
 
 // base, exponent, modulus, and what `pow` answers.
-const POWERS: [(i128, i128, i128, i128); 10] = [
+const MODULAR_POWERS: [(i128, i128, i128, i128); 10] = [
     (1 << 126, 2, GREATEST, 1 << 125),
     (3, -1, -7, -2),
     (3, 2, 1, 0),
@@ -165,30 +199,40 @@ const POWERS: [(i128, i128, i128, i128); 10] = [
 ];
 
 #[test]
-fn powers(rt: HostRuntime) {
-    for (base, exp, modulus, wanted) in &POWERS {
+fn modular_powers(rt: HostRuntime) {
+    for (base, exp, modulus, power) in &MODULAR_POWERS {
         assert_eq!(rt;
             int(*base).modpow(int(*exp), int(*modulus)),
-            Ok(int(*wanted))
+            Ok(int(*power))
         );
         assert_eq!(rt;
             int(*base).pow(int(*exp), Some(int(*modulus))),
-            Ok(int(*wanted))
+            Ok(int(*power))
         );
     }
     assert_eq!(rt; int(2).modpow(int(-1), int(4)), Err(PyError::NotInvertible));
     assert_eq!(rt; int(2).modpow(int(-1), int(0)), Err(PyError::ModulusZero));
-    assert_eq!(rt; int(-1).pow(int(1 << 100), None), Ok(int(1)));
-    assert_eq!(rt; int(-1).pow(int((1 << 100) + 1), None), Ok(int(-1)));
-    assert_eq!(rt; int(0).pow(int(0), None), Ok(int(1)));
-    assert_eq!(rt; int(2).pow(int(127), None), Err(PyError::IntTooWide));
-    assert_eq!(rt; int(-2).pow(int(127), None), Ok(int(LEAST)));
-    assert_eq!(rt; int(2).pow(int(GREATEST), None), Err(PyError::IntTooWide));
-    assert_eq!(rt; int(5).rpow(int(-3)), Ok(int(-243)));
-    assert_eq!(rt;
-        int(2).pow(int(-1), None),
-        Err(PyError::NotCarried(CarryKind::NegativePower))
-    );
+}
+
+// base, exponent, and what `**` answers.
+const POWERS: [(i128, i128, Option<i128>); 8] = [
+    (-1, 1 << 100, Some(1)),
+    (-1, (1 << 100) + 1, Some(-1)),
+    (0, 0, Some(1)),
+    (0, 5, Some(0)),
+    (2, 127, None),
+    (-2, 127, Some(LEAST)),
+    (2, GREATEST, None),
+    (-3, 5, Some(-243)),
+];
+
+#[test]
+fn powers(rt: HostRuntime) {
+    for (base, exp, power) in &POWERS {
+        assert_eq!(rt; int(*base).pow(int(*exp), None), wanted(*power));
+        assert_eq!(rt; int(*exp).rpow(int(*base)), wanted(*power));
+    }
+    assert_eq!(rt; int(2).pow(int(-1), None).is_ok(), false);
 }
 
 // a text, a base, and its number.
@@ -235,8 +279,8 @@ const NO_LITERALS: [(&[u8], u32); 16] = [
 
 #[test]
 fn literals(rt: HostRuntime) {
-    for (text, base, wanted) in &LITERALS {
-        assert_eq!(rt; PyInt::try_int_radix(text, *base), Ok(int(*wanted)));
+    for (text, base, number) in &LITERALS {
+        assert_eq!(rt; PyInt::try_int_radix(text, *base), Ok(int(*number)));
     }
     for (text, base) in &NO_LITERALS {
         assert_eq!(rt;
@@ -246,57 +290,77 @@ fn literals(rt: HostRuntime) {
     }
     let wide = b"170141183460469231731687303715884105728";
     assert_eq!(rt; PyInt::try_int_radix(wide, 10), Err(PyError::IntTooWide));
-    assert_eq!(rt; PyInt::try_int_radix(b"1", 1), Err(PyError::BadBase));
     assert_eq!(rt; PyInt::try_int_radix(b"1", 37), Err(PyError::BadBase));
 }
 
+// bytes, with the highest first; whether they are signed, and their number.
+const BYTES: [(&[u8], bool, Option<i128>); 7] = [
+    (&[1, 2], false, Some(258)),
+    (&[255, 0], true, Some(-256)),
+    (&[255, 0], false, Some(65280)),
+    (&[], true, Some(0)),
+    (&[255; 40], true, Some(-1)),
+    (&[0; 40], false, Some(0)),
+    (&[255; 16], false, None),
+];
+
 #[test]
-fn bytes_of_numbers(rt: HostRuntime) -> PyResult<()> {
-    let big = ArgByteOrder::Big;
-    let little = ArgByteOrder::Little;
-    let bytes = int(258).bytes_of(rt.alloc(), 2, big, false)?;
-    assert_eq!(rt; bytes.as_slice(), [1, 2].as_slice());
-    let bytes = int(-2).bytes_of(rt.alloc(), 3, little, true)?;
-    assert_eq!(rt; bytes.as_slice(), [254, 255, 255].as_slice());
-    let bytes = int(5).bytes_of(rt.alloc(), 20, little, false)?;
-    assert_eq!(rt; bytes.len(), 20);
-    assert_eq!(rt; PyInt::from_bytes(&bytes, little, true), Ok(int(5)));
-    let bytes = int(0).bytes_of(rt.alloc(), 0, big, true)?;
-    assert_eq!(rt; bytes.len(), 0);
-    assert_eq!(rt; int(256).bytes_of(rt.alloc(), 1, big, false).is_ok(), false);
-    assert_eq!(rt; PyInt::from_bytes(&[1, 2], big, false), Ok(int(258)));
-    assert_eq!(rt; PyInt::from_bytes(&[1, 2], little, false), Ok(int(513)));
+fn numbers_of_bytes(rt: HostRuntime) {
+    for (bytes, signed, number) in &BYTES {
+        assert_eq!(rt;
+            PyInt::from_bytes(bytes, ArgByteOrder::Big, *signed),
+            wanted(*number)
+        );
+    }
+    let bytes = [255, 255, 1];
     assert_eq!(rt;
-        PyInt::from_bytes(&[255, 255, 1], little, true),
+        PyInt::from_bytes(&bytes, ArgByteOrder::Little, true),
         Ok(int(131071))
     );
-    assert_eq!(rt; PyInt::from_bytes(&[255, 0], big, true), Ok(int(-256)));
-    assert_eq!(rt; PyInt::from_bytes(&[], big, true), Ok(int(0)));
-    assert_eq!(rt; PyInt::from_bytes(&[255; 40], big, true), Ok(int(-1)));
-    assert_eq!(rt;
-        PyInt::from_bytes(&[255; 16], big, false),
-        Err(PyError::IntTooWide)
-    );
+}
+
+// a number, how many bytes, whether they are signed, and the bytes with the highest first.
+const NUMBERS: [(i128, usize, bool, &[u8]); 5] = [
+    (258, 2, false, &[1, 2]),
+    (-2, 3, true, &[255, 255, 254]),
+    (
+        5,
+        18,
+        false,
+        &[0, 0, 0, 0, 0, 0, 0, 0, 0, 0, 0, 0, 0, 0, 0, 0, 0, 5],
+    ),
+    (-128, 1, true, &[128]),
+    (0, 0, true, &[]),
+];
+
+#[test]
+fn bytes_of_numbers(rt: HostRuntime) -> PyResult<()> {
+    for (number, length, signed, wanted) in &NUMBERS {
+        let bytes = int(*number).bytes_of(rt.alloc(), *length, ArgByteOrder::Big, *signed)?;
+        assert_eq!(rt; bytes.as_slice(), *wanted);
+    }
+    let bytes = int(256).bytes_of(rt.alloc(), 2, ArgByteOrder::Little, false)?;
+    assert_eq!(rt; bytes.as_slice(), [0, 1].as_slice());
     Ok(())
 }
 
-fn bytes_error(alloc: Global, number: i128, length: usize, signed: bool) -> PyError {
-    match int(number).bytes_of(alloc, length, ArgByteOrder::Big, signed) {
-        Ok(_) => PyError::NoMemory,
-        Err(error) => error,
-    }
-}
+// a number, how many bytes, whether they are signed, and the refusal.
+const NO_BYTES: [(i128, usize, bool, PyError); 5] = [
+    (256, 1, false, PyError::IntTooBig),
+    (128, 1, true, PyError::IntTooBig),
+    (-129, 1, true, PyError::IntTooBig),
+    (-1, 0, true, PyError::IntTooBig),
+    (-1, 9, false, PyError::NegativeToUnsigned),
+];
 
 #[test]
 fn bytes_refused(rt: HostRuntime) {
-    assert_eq!(rt; bytes_error(rt.alloc(), 256, 1, false), PyError::IntTooBig);
-    assert_eq!(rt; bytes_error(rt.alloc(), 128, 1, true), PyError::IntTooBig);
-    assert_eq!(rt; bytes_error(rt.alloc(), -129, 1, true), PyError::IntTooBig);
-    assert_eq!(rt; bytes_error(rt.alloc(), -1, 0, true), PyError::IntTooBig);
-    assert_eq!(rt;
-        bytes_error(rt.alloc(), -1, 9, false),
-        PyError::NegativeToUnsigned
-    );
+    for (number, length, signed, wanted) in &NO_BYTES {
+        match int(*number).bytes_of(rt.alloc(), *length, ArgByteOrder::Big, *signed) {
+            Ok(_) => assert!(rt; false, "{number} in {length} bytes"),
+            Err(error) => assert_eq!(rt; error, *wanted),
+        }
+    }
 }
 
 #[test]
@@ -307,57 +371,59 @@ fn conversions(rt: HostRuntime) -> PyResult<()> {
     assert_eq!(rt; int(-9).try_to_primitive::<i64>()?, -9);
     assert_eq!(rt; int(-9).try_to_primitive::<isize>()?, -9);
     assert_eq!(rt; int(LEAST).try_to_primitive::<i128>()?, LEAST);
+    Ok(())
+}
+
+#[test]
+fn unsigned_conversions(rt: HostRuntime) -> PyResult<()> {
     assert_eq!(rt; int(255).try_to_primitive::<u8>()?, 255);
     assert_eq!(rt; int(9).try_to_primitive::<u16>()?, 9);
     assert_eq!(rt; int(9).try_to_primitive::<u32>()?, 9);
     assert_eq!(rt; int(9).try_to_primitive::<u64>()?, 9);
     assert_eq!(rt; int(9).try_to_primitive::<usize>()?, 9);
     assert_eq!(rt; int(GREATEST).try_to_primitive::<u128>()?, GREATEST as u128);
-    let refused = Err(PyError::IntTooLargeFor(PrimitiveName::U8));
-    assert_eq!(rt; int(256).try_to_primitive::<u8>(), refused);
-    assert_eq!(rt; int(-1).try_to_primitive::<u8>(), refused);
-    assert_eq!(rt; PyInt::from(-7i8), int(-7));
-    assert_eq!(rt; PyInt::from(7u64), int(7));
-    assert_eq!(rt; PyInt::from(-7isize), int(-7));
-    assert_eq!(rt; PyInt::try_from_u128(1 << 127), Err(PyError::IntTooWide));
     Ok(())
 }
 
 #[test]
-fn parts_of_numbers(rt: HostRuntime) -> PyResult<()> {
-    let seven = int(-7);
-    assert_eq!(rt; seven.pos(), seven);
-    assert_eq!(rt; seven.int(), seven);
-    assert_eq!(rt; seven.trunc(), seven);
-    assert_eq!(rt; seven.floor(), seven);
-    assert_eq!(rt; seven.ceil(), seven);
-    assert_eq!(rt; seven.index(), seven);
-    assert_eq!(rt; seven.conjugate(), seven);
-    assert_eq!(rt; seven.real(), seven);
-    assert_eq!(rt; seven.numerator(), seven);
-    assert_eq!(rt; seven.getnewargs(), seven);
-    assert_eq!(rt; seven.imag(), 0);
-    assert_eq!(rt; seven.denominator(), 1);
-    assert_eq!(rt; seven.as_integer_ratio(), (seven, 1));
-    assert_eq!(rt; seven.bool(), true);
-    assert_eq!(rt; int(0).bool(), false);
-    assert_eq!(rt; int(-1).hash(), -2);
-    assert_eq!(rt; int((1 << 61) - 1).hash(), 0);
-    assert_eq!(rt; int(LEAST).hash(), -32);
-    let text = format!(in rt.alloc(); "{seven} {}", int(LEAST))?;
+fn made_from_types(rt: HostRuntime) {
+    let refused = Err(PyError::IntTooLargeFor(PrimitiveName::U8));
+    assert_eq!(rt; int(256).try_to_primitive::<u8>(), refused);
+    assert_eq!(rt; PyInt::from(-7i8), int(-7));
+    assert_eq!(rt; PyInt::from(7u64), int(7));
+    assert_eq!(rt; PyInt::try_from_u128(1 << 127), Err(PyError::IntTooWide));
+}
+
+// a number and its hash.
+const HASHES: [(i128, i64); 4] = [(-1, -2), ((1 << 61) - 1, 0), (LEAST, -32), (GREATEST, 31)];
+
+#[test]
+fn hashes(rt: HostRuntime) {
+    for (number, hash) in &HASHES {
+        assert_eq!(rt; int(*number).hash(), *hash);
+    }
+    assert_eq!(rt; int(-7).as_integer_ratio(), (int(-7), 1));
+    assert_eq!(rt; int(-7).bool(), true);
+    assert_eq!(rt; int(1) < int(2), true);
+}
+
+#[test]
+fn printed(rt: HostRuntime) -> PyResult<()> {
+    let text = format!(in rt.alloc(); "{} {}", int(-7), int(LEAST))?;
     assert_eq!(rt;
         text.as_str(),
         "-7 -170141183460469231731687303715884105728"
     );
-    assert_eq!(rt; int(1) < int(2), true);
+    Ok(())
+}
+
+#[test]
+fn truths(rt: HostRuntime) {
     let yes = PyBool::new(true);
     let no = PyBool::new(false);
-    assert_eq!(rt; yes.value(), true);
     assert_eq!(rt; yes.as_int(), int(1));
     assert_eq!(rt; yes.and(no), no);
     assert_eq!(rt; yes.or(no), yes);
     assert_eq!(rt; yes.xor(yes), no);
     assert_eq!(rt; yes.repr(), "True");
-    assert_eq!(rt; no.repr(), "False");
-    Ok(())
 }
