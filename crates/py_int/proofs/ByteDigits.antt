@@ -1,5 +1,5 @@
 -- Numbers that bytes spell, digit by digit.
-use Rattle.std.proofs.Common.{◌≡◌, ℕ, zero, suc, ◌+◌, ◌-◌, ◌*◌, ◌/◌, ◌%◌, ◌^◌, ◌<◌, ◌≤◌, Bool, true, false, nat_lt, nat_le, List, [], ◌∷◌, ◌++◌, length, take, drop, reverse, map, get_or, slice_index, ℤ, pos, negsuc, FitsSigned, ◌-ℤ◌, Ok, Err, refl, ap, sym, ◌∙◌, add-one, arith, pow-suc, cond}
+use Rattle.std.proofs.Common.{◌≡◌, ℕ, zero, suc, ◌+◌, ◌-◌, ◌*◌, ◌^◌, ◌<◌, ◌≤◌, Bool, true, false, nat_lt, nat_le, List, [], ◌∷◌, ◌++◌, length, take, drop, reverse, map, get_or, ℤ, pos, negsuc, FitsSigned, Ok, Err, refl, ap, ◌∙◌, arith, pow-suc, cond}
 use Rattle.std.specs.Int.Digits.{number_from_digits, number_from_digits_after, AllBelowBase}
 use Rattle.std.specs.Int.{complement_if, w128}
 use Rattle.std.specs.Int.Signed.{le_z}
@@ -13,7 +13,7 @@ use Rattle.py_int.specs.Numbers.{wide, Carries}
 use Rattle.py_int.specs.declared.bytes.ArgByteOrder.{ArgByteOrder}
 use Rattle.py_int.specs.declared.bytes.ArgByteOrder.TheVariants.{Big, Little}
 use Rattle.py_int.specs.Division.{floor_of}
-use Rattle.py_int.specs.Bytes.{in_order, number_of, complemented, is_high, digits_if, low_bytes, low_byte, is_within, holds}
+use Rattle.py_int.specs.Bytes.{in_order, number_of, complemented, is_high, digits_if, low_bytes, low_byte, holds}
 
 mul-le : (a b n : ℕ) → b ≤ a → b * n ≤ a * n
 mul-le a b n h = let e : b + (a - b) ≡ a = omega arith in omega (arith, ap (λ m. m * n) e)

@@ -1,15 +1,14 @@
 -- The bytes of a number spell it.
-use Rattle.std.proofs.Common.{◌≡◌, ℕ, zero, suc, ◌+◌, ◌-◌, ◌*◌, ◌/◌, ◌%◌, ◌^◌, ◌<◌, ◌≤◌, Bool, true, false, nat_lt, nat_le, List, [], ◌∷◌, ◌++◌, length, reverse, ℤ, pos, negsuc, refl, ap, sym, ◌∙◌, add-one, arith, pow-suc}
+use Rattle.std.proofs.Common.{◌≡◌, ℕ, zero, suc, ◌+◌, ◌*◌, ◌/◌, ◌^◌, ◌<◌, ◌≤◌, Bool, true, false, List, [], ◌∷◌, ◌++◌, length, reverse, ℤ, pos, negsuc, refl, ap, ◌∙◌, arith, pow-suc}
 use Rattle.std.specs.Int.Digits.{number_from_digits}
 use Rattle.std.proofs.Math.Nat.{pow-zero, div-add-mod}
 use Rattle.std.proofs.lemmas.Int.Digits.{number_push}
-use Rattle.std.proofs.lemmas.List.{length-reverse, reverse-reverse, reverse-append}
-use Rattle.std.proofs.lemmas.Nat.{mod_below}
+use Rattle.std.proofs.lemmas.List.{length-reverse, reverse-append}
 use Rattle.std.proofs.lemmas.Bool.{ltb-true, leb-true, false≢true}
 use Rattle.py_int.specs.declared.bytes.ArgByteOrder.{ArgByteOrder}
 use Rattle.py_int.specs.declared.bytes.ArgByteOrder.TheVariants.{Big, Little}
 use Rattle.py_int.specs.Division.{floor_of}
-use Rattle.py_int.specs.Bytes.{in_order, number_of, bytes_in, low_bytes, low_byte, is_within, holds}
+use Rattle.py_int.specs.Bytes.{in_order, number_of, bytes_in, low_bytes, low_byte, holds}
 use Rattle.py_int.proofs.ByteDigits.{high_spells, low_spells}
 
 length_low : (k : ℕ) (z : ℤ) → length (low_bytes k z) ≡ k

@@ -1,7 +1,7 @@
 -- The floor of a quotient and what it leaves are the one pair that divides.
-use Rattle.std.proofs.Common.{◌≡◌, ◌≢◌, ◌↔◌, ℕ, zero, suc, ◌+◌, ◌-◌, ◌*◌, ◌/◌, ◌%◌, ◌<◌, ◌≤◌, ℤ, pos, negsuc, neg_ℤ, ◌+ℤ◌, ◌-ℤ◌, ◌*ℤ◌, unsigned_abs, ◌⊎◌, inl, inr, refl, ap, sym, ◌∙◌, subst, arith}
+use Rattle.std.proofs.Common.{◌≡◌, ◌≢◌, ◌↔◌, ℕ, zero, suc, ◌+◌, ◌-◌, ◌*◌, ◌<◌, ℤ, pos, negsuc, neg_ℤ, ◌+ℤ◌, ◌-ℤ◌, ◌*ℤ◌, unsigned_abs, ◌⊎◌, inl, inr, refl, ap, sym, ◌∙◌, arith}
 use Rattle.std.proofs.lemmas.Int.{ints}
-use Rattle.std.proofs.lemmas.Nat.{div-mul-add, mod_below}
+use Rattle.std.proofs.lemmas.Nat.{div-mul-add}
 use Rattle.py_int.specs.Division.{HasSignOf, IsDivision, floor_of, floor_div, floor_mod}
 use Rattle.py_int.specs.Residues.{residue, toward}
 use Rattle.py_int.proofs.Floors.{floor_mod-is, residue_below, nonzero-abs, toward_zero, toward_more}

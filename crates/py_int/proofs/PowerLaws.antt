@@ -1,5 +1,5 @@
 -- Powers, by their magnitudes and signs.
-use Rattle.std.proofs.Common.{◌≡◌, ◌≢◌, ℕ, zero, suc, ◌+◌, ◌-◌, ◌*◌, ◌%◌, ◌^◌, ◌<◌, ◌≤◌, Bool, true, false, cond, eqb, nat_le, ℤ, pos, negsuc, neg_ℤ, ◌*ℤ◌, ◌≤ℤ◌, ◌<ℤ◌, unsigned_abs, FitsSigned, Option, None, Some, Result, Ok, Err, inl, inr, refl, ap, sym, ◌∙◌, arith, pow-suc}
+use Rattle.std.proofs.Common.{◌≡◌, ◌≢◌, ℕ, zero, suc, ◌*◌, ◌%◌, ◌^◌, ◌<◌, ◌≤◌, Bool, true, false, cond, eqb, ℤ, pos, negsuc, neg_ℤ, ◌*ℤ◌, ◌≤ℤ◌, ◌<ℤ◌, unsigned_abs, FitsSigned, Option, None, Some, Result, Ok, Err, inl, inr, refl, ap, sym, ◌∙◌, arith, pow-suc}
 use Rattle.std.specs.Option.{SomeIff}
 use Rattle.std.specs.Int.{int_pow, w128}
 use Rattle.std.proofs.Math.Nat.{pow-zero, mul_comm, pow-le-pow_left, pow-le-pow_right}
@@ -8,7 +8,7 @@ use Rattle.std.proofs.lemmas.Bool.{cases_Bool, cases_lt, le-leb}
 use Rattle.std.proofs.lemmas.Bool.Decides.{nat_tests}
 use Rattle.py_base.specs.declared.error.PyError.{PyError}
 use Rattle.py_base.specs.declared.error.PyError.TheVariants.{IntTooWide}
-use Rattle.py_int.specs.Numbers.{wide, carried, Carries, Gives}
+use Rattle.py_int.specs.Numbers.{wide, Carries, Gives}
 use Rattle.py_int.specs.Powers.{power}
 
 one_pow : (k : ℕ) → 1 ^ k ≡ 1

@@ -1,9 +1,9 @@
 -- Literals, read from the left.
-use Rattle.std.proofs.Common.{◌≡◌, ℕ, zero, suc, ◌+◌, ◌-◌, ◌*◌, ◌^◌, ◌<◌, ◌≤◌, min, Bool, true, false, ◌&&◌, nat_lt, nat_le, eqb, cond, List, [], ◌∷◌, ◌++◌, length, take, drop, reverse, get_or, Option, None, Some, option_map, ℤ, pos, neg_ℤ, Ok, Err, inl, inr, refl, ap, sym, ◌∙◌, arith}
+use Rattle.std.proofs.Common.{◌≡◌, ℕ, zero, suc, ◌+◌, ◌-◌, ◌*◌, ◌^◌, ◌<◌, ◌≤◌, min, Bool, true, false, ◌&&◌, nat_lt, nat_le, eqb, List, [], ◌∷◌, length, take, drop, reverse, get_or, Option, None, Some, option_map, pos, neg_ℤ, Err, inl, inr, refl, ap, sym, ◌∙◌, arith}
 use Rattle.std.specs.Char.{digit_value}
 use Rattle.std.proofs.lemmas.Bool.{cases_lt, cases_Bool}
 use Rattle.std.proofs.lemmas.Bool.Decides.{nat_tests}
-use Rattle.std.proofs.lemmas.List.{drop_more, take_more, drop_all, take_all, reverse-append}
+use Rattle.std.proofs.lemmas.List.{drop_more, take_more, drop_all, reverse-append}
 use Rattle.py_base.specs.declared.error.PyError.TheVariants.{IntTooWide}
 use Rattle.py_int.specs.Capped.{capped}
 use Rattle.py_int.specs.Numbers.{carried}

@@ -1,8 +1,7 @@
 -- Residues of products and powers.
-use Rattle.std.proofs.Common.{◌≡◌, ◌≢◌, ℕ, zero, suc, ◌+◌, ◌-◌, ◌*◌, ◌/◌, ◌%◌, ◌^◌, ◌<◌, ◌≤◌, ℤ, pos, negsuc, neg_ℤ, ◌*ℤ◌, unsigned_abs, ◌⊎◌, inl, inr, refl, ap, sym, ◌∙◌, arith, pow-suc, eqb, true, false}
+use Rattle.std.proofs.Common.{◌≡◌, ◌≢◌, ℕ, zero, suc, ◌+◌, ◌-◌, ◌*◌, ◌/◌, ◌%◌, ◌^◌, ◌<◌, ℤ, pos, negsuc, neg_ℤ, ◌*ℤ◌, unsigned_abs, ◌⊎◌, inl, inr, refl, ap, sym, ◌∙◌, arith, pow-suc}
 use Rattle.std.proofs.Math.Nat.{pow-zero, mul_comm, div-add-mod, mod-eq_of_lt}
-use Rattle.std.proofs.lemmas.Nat.{mul-mod, mul-mod_first, mul-mod_second, mod-mul-add, mod_below, pow-mod}
-use Rattle.std.proofs.lemmas.Bool.Decides.{nat_tests}
+use Rattle.std.proofs.lemmas.Nat.{mul-mod, mul-mod_second, mod-mul-add, mod_below, pow-mod}
 use Rattle.py_int.specs.Division.{floor_mod}
 use Rattle.py_int.specs.Residues.{residue, toward}
 use Rattle.py_int.specs.Powers.{power, IsInverse, IsInversePower}

@@ -1,5 +1,5 @@
 -- Shifts by more than a machine's digits.
-use Rattle.std.proofs.Common.{◌≡◌, ◌≢◌, ℕ, zero, suc, ◌+◌, ◌-◌, ◌*◌, ◌/◌, ◌%◌, ◌^◌, ◌<◌, ◌≤◌, Bool, true, false, ℤ, pos, negsuc, neg_ℤ, ◌<ℤ◌, ◌≤ℤ◌, unsigned_abs, Err, Ok, ◌*ℤ◌, FitsSigned, to_z, of_z, refl, ap, sym, ◌∙◌, zero-add, arith}
+use Rattle.std.proofs.Common.{◌≡◌, ◌≢◌, ℕ, zero, suc, ◌+◌, ◌*◌, ◌/◌, ◌^◌, ◌<◌, ◌≤◌, true, ℤ, pos, negsuc, ◌<ℤ◌, unsigned_abs, Err, FitsSigned, of_z, refl, ap, sym, ◌∙◌, zero-add, arith}
 use Rattle.std.proofs.Math.Nat.{pow-le-pow_right}
 use Rattle.std.specs.Int.{w128}
 use Rattle.std.proofs.lemmas.Int.{ints}
@@ -7,7 +7,7 @@ use Rattle.std.proofs.lemmas.Nat.{div-mul-add}
 use Rattle.std.proofs.Math.Nat.{zero-mul}
 use Rattle.std.proofs.lemmas.Bool.Decides.{nat_tests}
 use Rattle.py_base.specs.declared.error.PyError.TheVariants.{IntTooWide}
-use Rattle.py_int.specs.Numbers.{wide, carried, Carries}
+use Rattle.py_int.specs.Numbers.{wide, Carries}
 use Rattle.py_int.specs.Bits.{shifted_left, shifted_right}
 
 pub power_least : (k : ℕ) → 128 ≤ k → 2 ^ 128 ≤ 2 ^ k

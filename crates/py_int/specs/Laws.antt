@@ -1,5 +1,5 @@
 -- Laws of whole numbers.
-use Rattle.std.specs.Prelude.{◌≡◌, ◌≢◌, ◌↔◌, ℕ, ℤ, pos, Bool, true, List}
+use Rattle.std.specs.Prelude.{◌≡◌, ◌≢◌, ◌↔◌, ℕ, ℤ, pos, Bool, true}
 use Rattle.py_base.specs.Hashes.{number_hash}
 use Rattle.py_int.specs.declared.bytes.ArgByteOrder.{ArgByteOrder}
 use Rattle.py_int.specs.Bits.{bit}

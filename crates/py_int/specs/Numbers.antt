@@ -1,5 +1,5 @@
 -- Whole numbers without a bound, and where 128 bits hold them.
-use Rattle.std.specs.Prelude.{ℤ, pos, negsuc, ◌^◌, Bool, true, false, nat_le, ◌≡◌, Option, None, Some, Result, Ok, Err, if◌then◌else◌}
+use Rattle.std.specs.Prelude.{ℤ, pos, negsuc, ◌^◌, Bool, nat_le, ◌≡◌, Option, None, Some, Result, Ok, Err, if◌then◌else◌}
 use Rattle.py_base.specs.declared.error.PyError.{PyError}
 use Rattle.py_base.specs.declared.error.PyError.TheVariants.{IntTooWide}
 

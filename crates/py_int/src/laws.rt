@@ -1,7 +1,7 @@
 //! Laws of whole numbers.
 
-ghost use Rattle.std.specs.Prelude.{◌≡◌, ℤ};
-ghost use Rattle.std.specs.Ordering.{int_cmp};
+ghost use Rattle.std.specs.Prelude.{◌≡◌, ◌↔◌, ℤ, ◌<ℤ◌, IsTrue, Some};
+ghost use Rattle.std.specs.Ordering.{int_cmp, partial_lt};
 ghost use Rattle.py_int.specs.Laws.{BytesSpellTheNumber, DivisionIsOnePair, EqualNumbersHashAlike, NumbersAreTheirBits};
 
 use crate::number::PyInt;
@@ -22,9 +22,24 @@ pub fn equal_numbers_hash_alike()
     ensures { EqualNumbersHashAlike }
 {}
 
-/// The order of two is the order of their numbers.
+/// The order of two, which sorts and maps use, is the order of their numbers.
 pub fn order_is_the_numbers()
     ensures { (a b : ℤ) → ⟦<PyInt as Ord>⟧.cmp a b ≡ int_cmp a b }
+{}
+
+/// And so is the one that `<` and `<=` use.
+pub fn comparison_is_the_numbers()
+    ensures { (a b : ℤ) → ⟦<PyInt as PartialOrd>⟧.partial_cmp a b ≡ Some (int_cmp a b) }
+{}
+
+/// One is less just where its number is.
+pub fn less_is_the_numbers()
+    ensures { (a b : ℤ) → IsTrue (partial_lt ⟦<PyInt as PartialOrd>⟧.partial_cmp a b) ↔ (a <ℤ b) }
+{}
+
+/// Two are equal just where their numbers are.
+pub fn equality_is_the_numbers()
+    ensures { (a b : ℤ) → IsTrue (⟦<PyInt as PartialEq>⟧.eq a b) ↔ (a ≡ b) }
 {}
 
 /// A number has its bits alone: what `and`, `or`, `xor` and `invert` answer is the one number.

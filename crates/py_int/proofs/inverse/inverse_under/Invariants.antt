@@ -1,4 +1,3 @@
-use Rattle.std.proofs.Common.{◌≡◌, ◌<◌}
 use Rattle.py_int.proofs.Euclid.{State}
 use Rattle.py_int.proofs.inverse.inverse_under.Given as goal
 

@@ -1,4 +1,4 @@
-use Rattle.std.proofs.Common.{◌≡◌, ◌≢◌, ◌<◌, ◌*◌, ◌%◌, ◌^◌, ℕ, unsigned_abs, refl, ap, ◌∙◌}
+use Rattle.std.proofs.Common.{◌≡◌, ◌≢◌, ◌<◌, ◌*◌, ◌%◌, ◌^◌, ℕ, unsigned_abs, refl, ◌∙◌}
 use Rattle.py_int.specs.Powers.{IsInversePower}
 use Rattle.py_int.specs.Residues.{residue, toward}
 use Rattle.py_int.proofs.ResidueLaws.{inverse_power, no_inverse}

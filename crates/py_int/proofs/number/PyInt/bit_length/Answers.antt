@@ -1,4 +1,4 @@
-use Rattle.std.proofs.Common.{◌≡◌, unsigned_abs, to_z, of_z, ap, ◌∙◌}
+use Rattle.std.proofs.Common.{◌≡◌, unsigned_abs, ap, ◌∙◌}
 use Rattle.std.specs.Int.{w128}
 use Rattle.std.proofs.lemmas.Int.{to_z-of_z}
 use Rattle.py_int.proofs.Lengths.{length_by_zeros}

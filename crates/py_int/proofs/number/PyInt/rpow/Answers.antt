@@ -1,4 +1,4 @@
-use Rattle.std.proofs.Common.{◌≡◌, ◌<◌, ◌<ℤ◌, pos, unsigned_abs, FitsSigned, to_z, of_z, ap, ◌∙◌, arith}
+use Rattle.std.proofs.Common.{◌≡◌, ◌<◌, ◌<ℤ◌, pos, unsigned_abs, FitsSigned, ap, ◌∙◌, arith}
 use Rattle.std.specs.Int.{int_pow, w128}
 use Rattle.std.proofs.lemmas.Int.{ints, to_z-of_z}
 use Rattle.py_int.proofs.PowerLaws.{refused_power, carried_by, power_is}

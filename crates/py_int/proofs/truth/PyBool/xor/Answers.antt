@@ -1,4 +1,4 @@
-use Rattle.std.proofs.Common.{◌≡◌, Bool, true, false, not, refl, ◌∙◌}
+use Rattle.std.proofs.Common.{◌≡◌, Bool, true, false, not, refl}
 use Rattle.std.specs.Bool.{beq}
 use Rattle.py_int.specs.Truths.{differ}
 use Rattle.py_int.proofs.truth.PyBool.xor.Goals as goal
