@@ -1,6 +1,7 @@
 pub mod BitLaws
 pub mod ByteDigits
 pub mod ByteLaws
+pub mod Decimals
 pub mod Euclid
 pub mod Floors
 pub mod Lengths

@@ -146,7 +146,7 @@ impl PyInt {
 
     /// The bytes of `self.to_bytes(length, byteorder, signed=signed)`: `length` of them, or
     /// `NegativeToUnsigned`, or `IntTooBig`.
-    pub fn bytes_of(
+    pub(crate) fn bytes_of(
         &self,
         alloc: Global,
         length: usize,

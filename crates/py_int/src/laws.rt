@@ -12,7 +12,7 @@ pub fn division_is_one_pair()
     ensures { DivisionIsOnePair }
 {}
 
-/// `from_bytes` of what `bytes_of` gave is the number, under one byte order and signedness.
+/// `from_bytes` of what `to_bytes` gave is the number, under one byte order and signedness.
 pub fn bytes_spell_the_number()
     ensures { BytesSpellTheNumber }
 {}

@@ -15,6 +15,7 @@ mod number;
 mod parts;
 mod power;
 mod primitive;
+mod printing;
 mod residue;
 mod round;
 mod shift;
