@@ -1,5 +1,5 @@
 -- How a table writes answers.
-use Rattle.std.specs.Prelude.{◌≡◌, List, ℕ, ℤ, ◌++◌, Bool, true, false, codes}
+use Rattle.std.specs.Prelude.{List, ℕ, ℤ, ◌++◌, Bool, true, false, codes}
 use Rattle.std.specs.Fmt.{signed_decimal}
 use Rattle.hex.specs.Hex.{encode_lower}
 
