@@ -37,8 +37,8 @@ fn to_bytes(alloc: Global, mut words: Arguments<'_>) -> Result<String, Fault> {
     let order = words.order()?;
     let signed = words.flag(alloc)?;
     words.end()?;
-    match one.bytes_of(alloc, length, order, signed) {
-        Ok(bytes) => answers::bytes(alloc, bytes.as_slice()),
+    match one.to_bytes(alloc, length, order, signed) {
+        Ok(bytes) => answers::bytes(alloc, bytes.as_bytes()),
         Err(error) => answers::refusal(alloc, &error),
     }
 }
@@ -48,10 +48,7 @@ fn of_one(alloc: Global, name: &str, one: PyInt) -> Result<String, Fault> {
         "bit_length" => answers::number(alloc, i128::from(one.bit_length())),
         "bit_count" => answers::number(alloc, i128::from(one.bit_count())),
         "hash" => answers::number(alloc, i128::from(one.hash())),
-        "repr" => {
-            let printed = format!(in alloc; "{one}")?;
-            answers::text(alloc, printed.as_str())
-        }
+        "repr" => answers::text_result(alloc, one.repr(alloc)),
         _ => Err(Fault::NoCall),
     }
 }
