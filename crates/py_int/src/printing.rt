@@ -7,6 +7,7 @@ ghost use Rattle.py_int.specs.Bytes.{bytes_in, holds, lacks_sign};
 
 use crate::bytes::ArgByteOrder;
 use crate::number::PyInt;
+use itoa::Buffer;
 use py_base::PyResult;
 use py_text::{PyBytes, PyStr};
 use std::alloc::Global;
@@ -38,7 +39,7 @@ impl PyInt {
         ensures err { IsOkUnless result NoMemory }
     {
         let value = self.as_i128();
-        let text = format!(in alloc; "{value}")?;
-        Ok(PyStr::from(text))
+        let mut buffer = Buffer::new();
+        PyStr::copy_of(alloc, buffer.format(value))
     }
 }
