@@ -1,6 +1,6 @@
 //! The texts that calls are made on: one block of words over and over.
 
-ghost use Rattle.std.specs.Prelude.{◌≡◌, ◌+◌, ◌/◌, ◌^◌, ◌<◌, length, take, chars, IfOk};
+ghost use Rattle.std.specs.Prelude.{◌≡◌, ◌+◌, ◌-◌, ◌/◌, ◌^◌, ◌<◌, ◌≤◌, length, take, drop, chars, IfOk};
 ghost use Rattle.py_text.specs.Affixes.{copies};
 
 use py_base::PyResult;
@@ -83,15 +83,23 @@ pub fn text_of(alloc: Global, language: Language, size: u32) -> PyResult<PyStr>
     filled(alloc, language.block(), size as usize)
 }
 
-/// A text of `size` code points, the last of which are those of the last word; as many of them as
-/// there is room for.
+// The block over and over and `last` behind it, `size` code points in all.
+fn ended(alloc: Global, block: &str, last: &PyStr, size: usize) -> PyResult<PyStr>
+    requires some { 0 < length block.now }
+    requires bound { size < 2 ^ 32 }
+    ensures size { IfOk result (λ text. length text ≡ size) }
+    ensures end { length last.now ≤ size → IfOk result (λ text. drop (size - length last.now) text ≡ last.now) }
+{
+    let front = filled(alloc, block, size.saturating_sub(last.char_len()))?;
+    let whole = front.add(alloc, last)?;
+    whole.do_slice(alloc, 0..size)
+}
+
+/// A text of `size` code points with the last word at its end, or with as much of that word as there
+/// is room for.
 pub fn text_with_end(alloc: Global, language: Language, size: u32) -> PyResult<PyStr>
     ensures { IfOk result (λ text. length text ≡ size) }
 {
     let last = PyStr::copy_of(alloc, language.last_word())?;
-    let size = size as usize;
-    let before = size.saturating_sub(last.char_len());
-    let front = filled(alloc, language.block(), before)?;
-    let whole = front.add(alloc, &last)?;
-    whole.do_slice(alloc, 0..size)
+    ended(alloc, language.block(), &last, size as usize)
 }
