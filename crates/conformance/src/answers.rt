@@ -1,7 +1,7 @@
 //! Answers as the tables write them.
 
 ghost use Rattle.std.specs.Prelude.{◌≡◌, IfOk, string_bytes};
-ghost use Rattle.py_base.specs.ErrorNames.{error_name};
+ghost use Rattle.py_base.specs.Error.Names.{error_name};
 ghost use Rattle.conformance.specs.Tokens.{text_token, bytes_token, number_token, flag_token, refusal};
 
 use crate::fault::Fault;

@@ -4,7 +4,7 @@ use Rattle.std.proofs.lemmas.Grind.{flat_map-append}
 use Rattle.std.proofs.lemmas.List.{take_more, nil_from_length}
 use Rattle.std.proofs.lemmas.Str.{encodes-append, chars_past_char, chars-nil}
 use Rattle.std.specs.Str.{IsUtf8}
-use Rattle.py_base.specs.Quoting.{quoted_char, quoted_chars}
+use Rattle.py_base.specs.Chars.Quoting.{quoted_char, quoted_chars}
 
 -- a text between two quotes
 pub in_quotes : (q : ℕ) (body : List ℕ) → encode_utf8_all (q ∷ (body ++ q ∷ [])) ≡ encode_utf8 q ++ (encode_utf8_all body ++ encode_utf8 q)

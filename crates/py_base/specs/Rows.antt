@@ -1,30 +1,31 @@
 -- Worked rows, which compute.
 use Rattle.std.specs.Prelude.{◌≡◌, refl, pos, negsuc, [], ◌∷◌, codes, true, false}
-use Rattle.py_base.specs.Categories.{in_category}
-use Rattle.py_base.specs.Classes.{is_line_end}
-use Rattle.py_base.specs.ErrorKinds.{kind_of}
-use Rattle.py_base.specs.Errors.{error_text}
-use Rattle.py_base.specs.Hashes.{number_hash}
-use Rattle.py_base.specs.Quoting.{bytes_repr}
-use Rattle.py_base.specs.declared.brace.FormatSpecError.TheVariants.{CodeNotInRange}
-use Rattle.py_base.specs.declared.kinds.ErrorKind.TheVariants.{OverflowError}
-use Rattle.py_base.specs.declared.names.ClassName.TheVariants.{Bool, Str}
+use Rattle.py_base.specs.Chars.Categories.{in_category}
+use Rattle.py_base.specs.Chars.Classes.{is_line_end}
+use Rattle.py_base.specs.Error.Kinds.{kind_of}
+use Rattle.py_base.specs.Error.Display.{error_text}
+use Rattle.py_base.specs.Hash.{int_hash}
+use Rattle.py_base.specs.Chars.Quoting.{bytes_repr}
+use Rattle.py_base.specs.declared.chars.categories.TheConstants.{CATEGORY_NOT_SPACE}
+use Rattle.py_base.specs.declared.error.brace.FormatSpecError.TheVariants.{CodeNotInRange}
+use Rattle.py_base.specs.declared.error.kinds.ErrorKind.TheVariants.{OverflowError}
+use Rattle.py_base.specs.declared.error.type_names.ClassName.TheVariants.{Bool, Str}
 use Rattle.py_base.specs.declared.error.PyError.TheVariants.{Downcast, FormatSpec}
 
--- `hash(-2305843009213693952)`: the rest is -1, which stands for an error
-pub hash_past_the_prime : number_hash (negsuc 2305843009213693951) ≡ negsuc 1
+-- `hash(-2305843009213693952)`: the rest is -1, which means an error in C
+pub hash_past_the_prime : int_hash (negsuc 2305843009213693951) ≡ negsuc 1
 hash_past_the_prime = refl
 
-pub hash_of_the_prime : number_hash (pos 2305843009213693951) ≡ pos 0
+pub hash_of_the_prime : int_hash (pos 2305843009213693951) ≡ pos 0
 hash_of_the_prime = refl
 
--- U+001F is a blank, and ends no line
+-- U+001F is whitespace, and ends no line
 pub unit_separator : is_line_end 0x1F ≡ false
 unit_separator = refl
 
--- the contrary of the ASCII blanks holds a number that is no character
-pub surrogate_in_contrary : in_category 3 0xD800 ≡ true
-surrogate_in_contrary = refl
+-- the complement of ASCII whitespace holds a number that is no character
+pub surrogate_in_complement : in_category CATEGORY_NOT_SPACE 0xD800 ≡ true
+surrogate_in_complement = refl
 
 -- `repr(b"'\n\xc8")`
 pub byte_quotes : bytes_repr (39 ∷ 10 ∷ 200 ∷ []) ≡ codes "b\"'\\n\\xc8\""

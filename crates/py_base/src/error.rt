@@ -1,33 +1,44 @@
 //! The errors of all calls.
 
+pub(crate) mod brace;
+pub(crate) mod causes;
+mod display;
+pub(crate) mod key;
+pub(crate) mod kinds;
+mod names;
+pub(crate) mod percent;
+pub(crate) mod type_names;
+
 ghost use Rattle.std.specs.Prelude.{◌≡◌};
 ghost use Rattle.py_base.specs.declared.error.PyError.TheVariants.{NoMemory};
 
-use crate::brace::{FormatParseError, FormatSpecError};
-use crate::causes::{CarryKind, IntArgsKind, MaketransKind, SwitchKind, TranslateKind, ZeroKind};
-use crate::names::{ClassName, PrimitiveName};
-use crate::owned::KeyName;
-use crate::percent::{PercentCause, PercentFault};
+use crate::error::brace::{FormatParseError, FormatSpecError};
+use crate::error::causes::{
+    CarryKind, IntArgsKind, MaketransKind, SwitchKind, TranslateKind, ZeroKind,
+};
+use crate::error::key::KeyName;
+use crate::error::percent::{PercentCause, PercentFault};
+use crate::error::type_names::{ClassName, PrimitiveName};
 use std::alloc::{AllocError, AllocFailed};
 
-/// What a call answers, or why it is refused.
+/// What a call answers, or the error that it fails with.
 pub type PyResult<T> = Result<T, PyError>;
 
-/// Why a call is refused. `kind` is its class in Python, it prints the message, and `name` is how
-/// a program's answer calls it.
+/// Why a call fails. `kind` is its class in Python, it prints the message, and `name` is its name in
+/// a program's answer.
 #[derive(Debug, Drop, PartialEq, Eq)]
 pub enum PyError {
-    /// There is no memory.
+    /// Memory ran out.
     NoMemory,
     /// The words are no code of a regular expression.
     InvalidCode,
-    /// The list of a replacement is empty, or its length is even.
+    /// A replacement template has no items, or an even number of them.
     InvalidTemplate,
-    /// An item in a number's place is neither an integer nor a truth value.
+    /// An item in the place of a group number is neither an integer nor a bool.
     ExpectedUsize,
     /// An integer is outside the type.
     IntTooLargeFor(PrimitiveName),
-    /// A number of a group, and the count of groups that it is past.
+    /// A group number, and the number of groups that it is past.
     TemplateGroup(usize, usize),
     /// The place of an item, from 0, that is not of the pattern's kind, and its class.
     TemplatePiece(usize, ClassName),
@@ -59,7 +70,7 @@ pub enum PyError {
     EmptySeparator,
     /// A text that has to be there is not.
     SubstringNotFound,
-    /// No code point stands at the place.
+    /// No code point is at the place.
     IndexOutOfRange,
     /// The step of a slice is 0.
     StepZero,

@@ -1,6 +1,6 @@
 -- Laws of whole numbers.
 use Rattle.std.specs.Prelude.{◌≡◌, ◌≢◌, ◌↔◌, ℕ, ℤ, pos, Bool, true}
-use Rattle.py_base.specs.Hashes.{number_hash}
+use Rattle.py_base.specs.Hash.{int_hash}
 use Rattle.py_int.specs.declared.bytes.ArgByteOrder.{ArgByteOrder}
 use Rattle.py_int.specs.Bits.{bit}
 use Rattle.py_int.specs.Division.{IsDivision, floor_div, floor_mod}
@@ -15,7 +15,7 @@ abbrev pub BytesSpellTheNumber : Type 0
 BytesSpellTheNumber = (order : ArgByteOrder) (signed : Bool) (k : ℕ) (z : ℤ) → holds signed k z ≡ true → number_of signed (in_order order (bytes_in order k z)) ≡ z
 
 abbrev pub EqualNumbersHashAlike : Type 0
-EqualNumbersHashAlike = (a b : ℤ) → a ≡ b → number_hash a ≡ number_hash b
+EqualNumbersHashAlike = (a b : ℤ) → a ≡ b → int_hash a ≡ int_hash b
 
 -- two numbers with the same bits are one
 abbrev pub NumbersAreTheirBits : Type 0

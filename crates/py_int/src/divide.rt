@@ -4,7 +4,7 @@
 ghost use Rattle.std.specs.Prelude.{◌≡◌, ◌≢◌, ◌<◌, ℤ, pos, Ok, Err};
 ghost use Rattle.std.specs.Prelude.{unsigned_abs};
 ghost use Rattle.py_base.specs.declared.error.PyError.TheVariants.{ZeroDivision};
-ghost use Rattle.py_base.specs.declared.causes.ZeroKind.TheVariants.{Division, Modulo, Both};
+ghost use Rattle.py_base.specs.declared.error.causes.ZeroKind.TheVariants.{Division, Modulo, Both};
 ghost use Rattle.py_int.specs.Numbers.{Carries};
 ghost use Rattle.py_int.specs.Division.{floor_div, floor_mod, divided};
 

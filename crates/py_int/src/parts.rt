@@ -1,7 +1,7 @@
 //! The calls that answer the number itself, and its truth, hash, real and imaginary part.
 
 ghost use Rattle.std.specs.Prelude.{◌≡◌, ◌≢◌, ◌↔◌, ℤ, pos, IsTrue};
-ghost use Rattle.py_base.specs.Hashes.{number_hash};
+ghost use Rattle.py_base.specs.Hash.{int_hash};
 
 use crate::number::PyInt;
 use py_base::py_hash_int;
@@ -107,7 +107,7 @@ impl PyInt {
 
     /// `hash(self)`.
     pub fn hash(&self) -> i64
-        ensures { result ≡ number_hash self.now }
+        ensures { result ≡ int_hash self.now }
     {
         py_hash_int(self.as_i128())
     }

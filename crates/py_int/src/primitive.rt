@@ -2,8 +2,8 @@
 
 ghost use Rattle.std.specs.Prelude.{◌≡◌, ℤ, pos, ◌≤ℤ◌, ◌↔◌, ◌-◌, ◌^◌, negsuc, IsOk, IfOk, IfErr};
 ghost use Rattle.py_base.specs.declared.error.PyError.TheVariants.{IntTooLargeFor};
-ghost use Rattle.py_base.specs.declared.names.PrimitiveName.{PrimitiveName};
-ghost use Rattle.py_base.specs.declared.names.PrimitiveName.TheVariants.{I8, I16, I32, I64, I128, U8, U16, U32, U64, U128, Isize, Usize};
+ghost use Rattle.py_base.specs.declared.error.type_names.PrimitiveName.{PrimitiveName};
+ghost use Rattle.py_base.specs.declared.error.type_names.PrimitiveName.TheVariants.{I8, I16, I32, I64, I128, U8, U16, U32, U64, U128, Isize, Usize};
 
 use crate::number::PyInt;
 use py_base::{PrimitiveName, PyError, PyResult};

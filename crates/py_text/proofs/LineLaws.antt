@@ -2,7 +2,7 @@
 use Rattle.std.proofs.Common.{◌≡◌, ℕ, ◌+◌, ◌<◌, ◌≤◌, ◌&&◌, ◌==◌, Bool, true, false, not, cond, if◌then◌else◌, List, [], ◌∷◌, ◌++◌, map, length, take, drop, take_while, refl, ap, sym, ◌∙◌, arith, subst, eqb-true, append_assoc, append-nil, length-drop, suc, take-add, drop-drop, chars, IsUtf8}
 use Rattle.std.proofs.lemmas.List.Sums.{take_while-cons}
 use Rattle.std.proofs.lemmas.Str.{chars-append}
-use Rattle.py_base.specs.Classes.{is_line_end}
+use Rattle.py_base.specs.Chars.Classes.{is_line_end}
 use Rattle.py_text.specs.Blanks.{skip_while}
 use Rattle.py_text.specs.Lines.{starts_with_lf, closes_line, end_width, in_front, whole_lines, without_end, split_lines}
 use Rattle.py_text.specs.Search.{stands_in}

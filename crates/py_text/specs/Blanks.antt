@@ -1,6 +1,6 @@
 -- A text cut at runs of blanks.
 use Rattle.std.specs.Prelude.{ℕ, zero, suc, Bool, not, ◌||◌, ◌==◌, if◌then◌else◌, List, [], ◌∷◌, reverse, take_while}
-use Rattle.py_base.specs.Classes.{between}
+use Rattle.py_base.specs.Chars.Classes.{between}
 use Rattle.py_text.specs.Cuts.{mirrored}
 
 -- the blanks of `split`: U+0020, and U+0009 to U+000D

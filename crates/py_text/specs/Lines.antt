@@ -1,6 +1,6 @@
 -- The lines of a text.
 use Rattle.std.specs.Prelude.{ℕ, Bool, false, not, ◌&&◌, ◌==◌, if◌then◌else◌, List, [], ◌∷◌, map, take_while}
-use Rattle.py_base.specs.Classes.{is_line_end}
+use Rattle.py_base.specs.Chars.Classes.{is_line_end}
 
 -- LF stands first
 abbrev pub starts_with_lf : List ℕ → Bool

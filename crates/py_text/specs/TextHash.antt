@@ -4,7 +4,7 @@ use Rattle.std.specs.Cmp.Lexicographic.{pointwise, bytes_decides}
 use Rattle.std.specs.Hash as fed
 use Rattle.std.specs.Int.{cast_signed, w64}
 use Rattle.std.proofs.Common.{ap}
-use Rattle.py_base.specs.Hashes.{never_minus_one}
+use Rattle.py_base.specs.Hash.{never_minus_one}
 
 -- one byte more, by the hash of Fowler, Noll and Vo (FNV-1a) of 64 bits
 abbrev pub mixed : ℕ → ℕ → ℕ

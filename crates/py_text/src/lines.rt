@@ -1,7 +1,7 @@
 //! A text cut into its lines.
 
 ghost use Rattle.std.specs.Prelude.{◌≡◌, ◌∷◌, ◌<◌, IfOk, IsOkUnless, IsUtf8, IsCharBoundary, MatchOption, IfSome, [], not, chars, length, take, drop};
-ghost use Rattle.py_base.specs.Classes.{is_line_end as ends};
+ghost use Rattle.py_base.specs.Chars.Classes.{is_line_end as ends};
 ghost use Rattle.py_text.specs.Blanks.{skip_while};
 ghost use Rattle.py_text.specs.Lines.{end_width, whole_lines, without_end, split_lines};
 

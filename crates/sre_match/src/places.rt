@@ -1,7 +1,7 @@
 //! Where the places of a subject are that a code names by a kind.
 
 ghost use Rattle.std.specs.Prelude.{◌≡◌, ◌+◌, ◌≤◌, IsTrue};
-ghost use Rattle.py_base.specs.Categories.{is_category, in_category};
+ghost use Rattle.py_base.specs.Chars.Categories.{is_category, in_category};
 ghost use Rattle.sre_match.specs.Places.{met_at, met_before, is_newline, is_boundary, is_last_end, at_place};
 
 use crate::units::{Cut, unit_at, unit_before};

@@ -1,7 +1,7 @@
 -- What a source that tells its bytes brings about, where neither stream fails.
 use Rattle.std.proofs.Common.{◌≡◌, ◌⊎◌, inl, inr, ℕ, ◌≤◌, ◌<◌, List, length, Option, Some, None, refl, sym, ap, subst, ◌∙◌, arith}
 use Rattle.std.specs.Io.KnownBytes.{Consumes, IsAtEnd}
-use Rattle.py_base.specs.Causes.{Rose}
+use Rattle.py_base.specs.Stream.Faults.{Rose}
 use Rattle.sre_code.specs.PlainTree.{PlainTree}
 use Rattle.sre_code.specs.Spelling.{Spells}
 use Rattle.sre_program.specs.declared.ending.Ending.{Ending}

@@ -2,7 +2,7 @@
 use Rattle.std.proofs.Common.{ℕ, ◌≡◌, ◌-◌, ◌≤◌, List, [], ◌++◌, length, take, drop, Option, Some, None, refl, sym, ap, ◌∙◌, append_assoc, arith}
 use Rattle.std.specs.Io.KnownBytes.{Consumes, IsAtEnd, Appends, Keeps}
 use Rattle.std.proofs.lemmas.List.{append-nil, length-append, length-drop, take_all}
-use Rattle.py_base.specs.Causes.{Rose}
+use Rattle.py_base.specs.Stream.Faults.{Rose}
 use Rattle.sre_program.specs.Causes.{HasAtMost}
 
 pub Consumes-none : (a : Option (List ℕ)) → Consumes a a []

@@ -1,6 +1,6 @@
 -- How a run ends, with its status and what each ending means.
 use Rattle.std.specs.Prelude.{◌≡◌, ℕ, List, Option}
-use Rattle.py_base.specs.Causes.{Rose}
+use Rattle.py_base.specs.Stream.Faults.{Rose}
 use Rattle.sre_program.specs.declared.ending.Ending.{Ending}
 use Rattle.sre_program.specs.declared.ending.Ending.TheVariants.{Answered, Faulted, NoCommand, NoRequest, SourceFailed, SinkFailed, NoMemory, TooLong}
 use Rattle.sre_program.specs.Headline.{IsAnswered}

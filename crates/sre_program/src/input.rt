@@ -2,7 +2,7 @@
 
 ghost use Rattle.std.specs.Prelude.{◌≡◌, ◌≤◌, ℕ, take, length, IfOk, OnOk, OnErr, Err, vec_len};
 ghost use Rattle.std.specs.Io.KnownBytes.{Consumes, IsAtEnd, Appends};
-ghost use Rattle.py_base.specs.Causes.{Rose};
+ghost use Rattle.py_base.specs.Stream.Faults.{Rose};
 ghost use Rattle.sre_program.specs.Causes.{TookMoreThan, HasAtMost};
 ghost use Rattle.sre_program.specs.declared.input.InputError.TheVariants.{NoMemory, Failed};
 

@@ -2,7 +2,7 @@
 
 ghost use Rattle.std.specs.Prelude.{◌≡◌, ◌≢◌, ◌↔◌, ◌≤◌, ◌<◌, ◌⊎◌, ℕ, List, map, length, take, IsTrue, IfOk, OnOk, IfErr, string_bytes, Some};
 ghost use Rattle.std.specs.Io.KnownBytes.{Consumes, Appends, IsAtEnd};
-ghost use Rattle.py_base.specs.Causes.{Rose};
+ghost use Rattle.py_base.specs.Stream.Faults.{Rose};
 ghost use Rattle.sre_code.specs.PlainTree.{PlainTree};
 ghost use Rattle.sre_code.specs.Spelling.{Spells};
 ghost use Rattle.sre_program.specs.Requests.{Request, IsRequest, text_of};

@@ -2,7 +2,7 @@ use Rattle.std.proofs.Common.{◌≡◌, ◌<◌, ◌+◌, ◌∙◌, ap, sym, L
 use Rattle.std.proofs.lemmas.Bool.Decides.{nat_tests}
 use Rattle.std.proofs.lemmas.Str.{chars-nil, IsUtf8-take}
 use Rattle.std.proofs.lemmas.List.{nil_from_length}
-use Rattle.py_base.specs.Classes.{is_line_end}
+use Rattle.py_base.specs.Chars.Classes.{is_line_end}
 use Rattle.py_text.specs.Blanks.{skip_while}
 use Rattle.py_text.specs.Lines.{end_width, whole_lines, without_end}
 use Rattle.py_text.proofs.Fronts.{some_chars}

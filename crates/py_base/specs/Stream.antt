@@ -1,0 +1,3 @@
+-- Sources and sinks of bytes.
+pub mod Faults
+pub mod Memory

@@ -1,0 +1,10 @@
+//! Tests of py_base: what CPython answers for errors, classes of characters and hashes, and streams
+//! in memory.
+#![tactic(auto)]
+
+#[cfg(test)]
+mod classes;
+#[cfg(test)]
+mod errors;
+#[cfg(test)]
+mod streams;
