@@ -59,6 +59,11 @@ abbrev pub Each : {X : Type 0} → (X → Type 0) → List X → Type 0
 Each P [] = Unit {0}
 Each P (x ∷ xs) = P x × Each P xs
 
+-- the facts of the rows, with tt after the last
+infixr 10 ◌also◌
+pub ◌also◌ : {A B : Type 0} → A → B → A × B
+a also b = (a, b)
+
 by_key : {E A : Type 0} (P : ℕ → A → List ℕ → Type 0) (e : E) (key op : ℕ) (b : Bool) → (key == op) ≡ b → (read : List ℕ → Read E A) (other : Option (List ℕ → Read E A)) (ws : List ℕ) → Holds (P key) (read ws) → Holds (P op) (read_found e other ws) → Holds (P op) (read_found e (if b then Some read else other) ws)
 by_key {E} {A} P e key op true q read other ws h k = let Q : ℕ → Type 0 = λ v. Holds (P v) (read ws) in subst Q (eqb-true key op q) h
 by_key {E} {A} P e key op false q read other ws h k = k

@@ -1,11 +1,12 @@
-pub mod Views
-pub mod Lists
-pub mod Reader
-pub mod Spelled
-pub mod Readings
-pub mod Shapes
-pub mod KindLaws
-pub mod SetLaws
-pub mod WholeLaws
-pub mod Choices
-pub mod Alternatives
+mod AgainBodyLemmas
+mod AgainBranchLemmas
+mod AgainLemmas
+mod AgainSetLemmas
+mod DispatchLemmas
+mod LeftLemmas
+mod ListLemmas
+mod SoundBodyLemmas
+mod SoundBranchLemmas
+mod SoundLemmas
+mod SoundSetLemmas
+mod ViewLemmas

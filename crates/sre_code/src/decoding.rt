@@ -1,76 +1,82 @@
-//! A whole code: a block of information or none, the words of a tree, and a last word 1.
+//! A whole code: a block of information or none, the words of a tree, and a last word `SUCCESS`.
 
-ghost use Rattle.std.specs.Prelude.{◌≡◌, ℕ, List, [], ◌∷◌, ◌++◌, ◌↔◌, IfOk, IsTrue, Option};
-ghost use Rattle.sre_code.specs.PlainTree.{PlainTree};
-ghost use Rattle.sre_code.specs.Spelling.{Spells, info, spell};
+ghost use Rattle.std.specs.Prelude.{◌≡◌, IfOk, List, Option};
+ghost use Rattle.py_base.specs.Reading.{read_of, read_as};
+ghost use Rattle.sre_code.specs.Decoding as spec;
+ghost use Rattle.sre_code.specs.Decoding.Decoder.{Meets};
+ghost use Rattle.sre_code.specs.Spelling.{Spells, SpellsNothing};
 
+mod bodies;
 mod branches;
-mod choices;
+mod conditionals;
+mod decoder;
+mod leaves;
 mod nodes;
 mod repeats;
 mod sets;
-mod simple;
-mod units;
 mod words;
 
 use crate::checked::Checked;
-use crate::decoding::nodes::tree;
+use crate::decoding::decoder::{Decoder, Read};
+use crate::decoding::words::{read_word, read_words};
 use crate::error::CodeError;
+use crate::opcodes::{INFO, MAXDEPTH, MAXGROUPS, SUCCESS};
+use crate::tree::Tree;
 use std::alloc::Global;
 
-// Groups are numbered from 1 to at most this number.
-const MAX_GROUPS: usize = 65535;
-
-// At most so many bodies stand inside one another.
-const MAX_LEVELS: usize = 200;
-
-// The words behind the block of information, where it is whole.
-fn after_info(words: &[u32]) -> Result<&[u32], CodeError>
-    ensures found { IfOk result (λ rest. (block : Option (List ℕ)) × (words.now ≡ info block ++ rest.now)) }
-    ensures only { (block : Option (List ℕ)) (t : PlainTree) → words.now ≡ info block ++ (spell t ++ 1 ∷ []) → IfOk result (λ rest. rest.now ≡ spell t ++ 1 ∷ []) }
-    ensures none { result ≡ Err CodeError.InvalidCode → (block : Option (List ℕ)) (t : PlainTree) → words.now ≡ info block ++ (spell t ++ 1 ∷ []) → ⊥ }
+fn read_info(words: &[u32]) -> Read<()>
+    ensures { Meets (spec.read_info words.now) (read_of result) }
 {
     match words {
-        [14, skip, ..] => {
-            let end = *skip as usize + 1;
-            if end == 1 {
+        [INFO, rest @ ..] => {
+            let (skip, rest) = read_word(rest)?;
+            if skip == 0 {
                 return Err(CodeError::InvalidCode);
             }
-            if words.len() < end {
-                return Err(CodeError::InvalidCode);
-            }
-            Ok(&words[end..])
+            let (_block, rest) = read_words(skip as usize - 1, rest)?;
+            Ok(((), rest))
         }
-        _ => Ok(words),
+        _ => Ok(((), words)),
     }
 }
 
-// Whether only the last word of a code is left.
 fn is_last(words: &[u32]) -> bool
-    ensures { IsTrue result ↔ (words.now ≡ 1 ∷ []) }
+    ensures { result ≡ spec.is_last words.now }
 {
-    matches!(words, [1])
+    matches!(words, [SUCCESS])
 }
 
-/// The tree that the words spell, for so many groups.
+fn read_code(alloc: Global, words: &[u32], groups: usize) -> Result<Tree, CodeError>
+    ensures { Meets (spec.read_code groups words.now) result }
+{
+    if groups > MAXGROUPS {
+        return Err(CodeError::InvalidCode);
+    }
+    let (_info, rest) = read_info(words)?;
+    let decoder = Decoder {
+        alloc,
+        groups,
+        levels: MAXDEPTH,
+    };
+    let (tree, last) = decoder.read_tree(rest)?;
+    if !is_last(last) {
+        return Err(CodeError::InvalidCode);
+    }
+    Ok(tree)
+}
+
+/// The tree that the words spell, for a pattern with so many groups. `opcodes` has the words.
 ///
 /// # Errors
 ///
-/// `InvalidCode` exactly where the words spell no tree, and `NoMemory`.
+/// `InvalidCode` exactly where the words spell no tree.
 pub fn decode(alloc: Global, words: &[u32], groups: usize) -> Result<Checked, CodeError>
     ensures found { IfOk result (λ code. Spells words.now groups code.tree) }
     ensures words { IfOk result (λ code. code.words ≡ words.now) }
     ensures groups { IfOk result (λ code. code.groups ≡ groups) }
-    ensures invalid { result ≡ Err CodeError.InvalidCode → (t : PlainTree) → Spells words.now groups t → ⊥ }
+    ensures invalid { result ≡ Err CodeError.InvalidCode → SpellsNothing words.now groups }
 {
-    if groups > MAX_GROUPS {
-        return Err(CodeError::InvalidCode);
-    }
-    let rest = after_info(words)?;
-    let (tree, last) = tree(alloc, rest, groups, MAX_LEVELS)?;
-    if !is_last(last) {
-        return Err(CodeError::InvalidCode);
-    }
+    let tree = read_code(alloc, words, groups)?;
     let words = Vec::from_slice(alloc, words)?;
     Ok(Checked::new(tree, words, groups))
 }

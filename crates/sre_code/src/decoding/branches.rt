@@ -1,117 +1,66 @@
-//! From words to a branch.
+//! Branches.
 
-ghost use Rattle.std.specs.Prelude.{◌≡◌, ◌≤◌, ℕ, List, [], ◌∷◌, ◌++◌, length, IfOk, OnOk, false};
-ghost use Rattle.sre_code.specs.PlainTree.{PlainNode, PlainTree};
-ghost use Rattle.sre_code.specs.Reading.{ReadsNode};
-ghost use Rattle.sre_code.specs.AlternativesReading.{listed_words, ReadsAlternative, ReadsAlternatives};
-ghost use Rattle.sre_code.specs.SetReading.{zero_first};
-ghost use Rattle.sre_code.specs.TreeView.{node_of};
+ghost use Rattle.std.specs.Prelude.{◌≡◌, length, Ok, suc, ◌∷◌};
+ghost use Rattle.py_base.specs.Reading.{read_of, read_as, ◌and_then◌};
+ghost use Rattle.sre_code.specs.Decoding.Branches as spec;
+ghost use Rattle.sre_code.specs.Decoding.Decoder.{Meets};
+ghost use Rattle.sre_code.specs.Decoding.Nodes.{read_body};
+ghost use Rattle.sre_code.specs.TreeView.{node_of, trees_of};
 
-use crate::decoding::nodes::part;
-use crate::decoding::words::{at_zero, word};
+use crate::decoding::decoder::{Decoder, Read};
+use crate::decoding::words::{after_next, is_next, read_word};
 use crate::error::CodeError;
+use crate::opcodes::{FAILURE, JUMP};
 use crate::tree::{Node, Tree, Trees};
-use std::alloc::Global;
 
-// How many words stand behind a branch, by the jump of its first alternative.
-fn left_behind(words: &[u32]) -> Result<usize, CodeError>
-    ensures found { IfOk result (λ left. (t : PlainTree) (ts : List PlainTree) (x : List ℕ) → words.now ≡ listed_words (t ∷ ts) 1 ++ 0 ∷ x → length x ≡ left) }
-    ensures some { IfOk result (λ _. zero_first words.now ≡ false) }
-    ensures none { result ≡ Err CodeError.InvalidCode → (t : PlainTree) (ts : List PlainTree) (x : List ℕ) → words.now ≡ listed_words (t ∷ ts) 1 ++ 0 ∷ x → ⊥ }
-{
-    let (skip, _more) = word(words)?;
-    if skip == 0 {
-        return Err(CodeError::InvalidCode);
+impl Decoder {
+    // An alternative, and how many words are left where its jump leads.
+    #[cycle(decode)]
+    fn read_alternative<'w>(&self, words: &'w [u32]) -> Read<'w, (Tree, usize)>
+        ensures { let body = read_body self.now.groups self.now.levels in
+            Meets (spec.read_alternative body words.now) (read_of result) }
+    {
+        let (skip, rest) = read_word(words)?;
+        let (tree, rest) = self.read_part(JUMP, skip, 2, rest)?;
+        let (jump, rest) = read_word(rest)?;
+        if jump as usize > rest.len() + 1 {
+            return Err(CodeError::InvalidCode);
+        }
+        Ok(((tree, rest.len() + 1 - jump as usize), rest))
     }
-    let at = skip as usize - 1;
-    if at >= words.len() {
-        return Err(CodeError::InvalidCode);
-    }
-    let here = words.len() - at;
-    let jump = words[at] as usize;
-    if jump > here {
-        return Err(CodeError::InvalidCode);
-    }
-    Ok(here - jump)
-}
 
-// Adds an alternative at the end.
-fn push(trees: &mut Vec<Tree>, t: Tree) -> Result<(), CodeError>
-    ensures pushed { OnOk result (trees.new.items ≡ trees.old.items ++ t ∷ []) }
-    ensures none { result ≡ Err CodeError.InvalidCode → ⊥ }
-{
-    trees.push(t)?;
-    Ok(())
-}
+    // The first alternative and those after it, which all jump to where so many words are left.
+    #[cycle(decode)]
+    fn read_alternatives<'w>(&self, first: Tree, left: usize, words: &'w [u32]) -> Read<'w, Trees>
+        ensures { let body = read_body self.now.groups self.now.levels in
+            let more = spec.read_alternatives (suc (length words.now)) body left words.now in
+            Meets (more and_then λ ts rest. Ok (trees_of (first ∷ ts), rest)) (read_of result) }
+    {
+        let mut trees = Vec::new(self.alloc);
+        trees.push(first)?;
+        let mut rest = words;
+        while !is_next(FAILURE, rest) {
+            let ((tree, end), after) = self.read_alternative(rest)?;
+            if end != left {
+                return Err(CodeError::InvalidCode);
+            }
+            trees.push(tree)?;
+            rest = after;
+        }
+        let rest = after_next(rest);
+        if rest.len() != left {
+            return Err(CodeError::InvalidCode);
+        }
+        Ok((Trees::from_trees(trees), rest))
+    }
 
-// An alternative, whose jump leads to where so many words are left.
-#[cycle(decode)]
-fn alternative(
-    alloc: Global,
-    left: usize,
-    words: &[u32],
-    groups: usize,
-    levels: usize,
-) -> Result<(Tree, &[u32]), CodeError>
-    requires { groups ≤ 65535 }
-    ensures found { IfOk result (λ r. ReadsAlternative words.now groups levels left r.0 r.1.now) }
-    ensures none { result ≡ Err CodeError.InvalidCode → (t : PlainTree) (x : List ℕ) → ReadsAlternative words.now groups levels left t x → ⊥ }
-{
-    let (skip, rest) = word(words)?;
-    let (t, until, behind) = part(alloc, skip, 3, rest, groups, levels)?;
-    let (jump, after) = word(behind)?;
-    if until != 15 {
-        return Err(CodeError::InvalidCode);
+    #[cycle(decode)]
+    pub(crate) fn read_branch<'w>(&self, words: &'w [u32]) -> Read<'w, Node>
+        ensures { let body = read_body self.now.groups self.now.levels in
+            Meets (spec.read_branch body words.now) (read_as node_of result) }
+    {
+        let ((first, left), rest) = self.read_alternative(words)?;
+        let (trees, rest) = self.read_alternatives(first, left, rest)?;
+        Ok((Node::Branch(trees), rest))
     }
-    if after.len() < left {
-        return Err(CodeError::InvalidCode);
-    }
-    if jump as usize != after.len() - left + 1 {
-        return Err(CodeError::InvalidCode);
-    }
-    Ok((t, after))
-}
-
-// The alternatives before a word 0 with so many words behind it.
-#[cycle(decode)]
-fn alternatives(
-    alloc: Global,
-    left: usize,
-    words: &[u32],
-    groups: usize,
-    levels: usize,
-) -> Result<(Vec<Tree>, &[u32]), CodeError>
-    requires { groups ≤ 65535 }
-    ensures found { IfOk result (λ r. ReadsAlternatives words.now groups levels r.0.items r.1.now) }
-    ensures none { result ≡ Err CodeError.InvalidCode → (ts : List PlainTree) (x : List ℕ) → ReadsAlternatives words.now groups levels ts x → length x ≡ left → ⊥ }
-{
-    let mut trees = Vec::new(alloc);
-    let mut rest = words;
-    while !at_zero(rest) {
-        let (t, after) = alternative(alloc, left, rest, groups, levels)?;
-        push(&mut trees, t)?;
-        rest = after;
-    }
-    let (_zero, after) = word(rest)?;
-    if after.len() != left {
-        return Err(CodeError::InvalidCode);
-    }
-    Ok((trees, after))
-}
-
-// A branch, behind its first word.
-#[cycle(decode)]
-pub(crate) fn branch(
-    alloc: Global,
-    words: &[u32],
-    groups: usize,
-    levels: usize,
-) -> Result<(Node, &[u32]), CodeError>
-    requires { groups ≤ 65535 }
-    ensures found { IfOk result (λ r. ReadsNode (7 ∷ words.now) groups levels (node_of r.0) r.1.now) }
-    ensures none { result ≡ Err CodeError.InvalidCode → (n : PlainNode) (x : List ℕ) → ReadsNode (7 ∷ words.now) groups levels n x → ⊥ }
-{
-    let left = left_behind(words)?;
-    let (trees, after) = alternatives(alloc, left, words, groups, levels)?;
-    Ok((Node::Branch(Trees::from_trees(trees)), after))
 }

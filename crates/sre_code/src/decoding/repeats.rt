@@ -1,84 +1,113 @@
-//! From words to a repeat.
+//! Repeats.
 
-ghost use Rattle.std.specs.Prelude.{◌≡◌, ◌≤◌, ℕ, List, ◌∷◌, IfOk};
-ghost use Rattle.sre_code.specs.PlainTree.{PlainNode, PlainTree};
-ghost use Rattle.sre_code.specs.Reading.{ReadsNode, ReadsRepeat};
-ghost use Rattle.sre_code.specs.Spelling.{repeat_word, until_word};
+ghost use Rattle.std.specs.Prelude.{◌≡◌};
+ghost use Rattle.py_base.specs.Reading.{read_of, read_as};
+ghost use Rattle.sre_code.specs.Decoding.Repeats as spec;
+ghost use Rattle.sre_code.specs.Decoding.Decoder.{Meets};
+ghost use Rattle.sre_code.specs.Decoding.Words.{read_from};
+ghost use Rattle.sre_code.specs.Decoding.Nodes.{read_body};
 ghost use Rattle.sre_code.specs.TreeView.{node_of};
 
-use crate::decoding::nodes::part;
-use crate::decoding::units::{is_wide, more_of};
-use crate::decoding::words::word;
+use crate::decoding::decoder::{Decoder, Read};
+use crate::decoding::words::read_word;
 use crate::error::CodeError;
-use crate::tree::{Node, RepeatKind, Tree};
-use std::alloc::Global;
+use crate::opcodes::{
+    MAX_UNTIL, MIN_REPEAT_ONE, MIN_UNTIL, POSSESSIVE_REPEAT, POSSESSIVE_REPEAT_ONE, REPEAT,
+    REPEAT_ONE, SUCCESS,
+};
+use crate::tree::{Node, RepeatKind};
 
-// What a repeat has behind its first word: its numbers, its body, and the word that ends it.
-#[cycle(decode)]
-fn repeated(
-    alloc: Global,
-    one_wide: bool,
-    words: &[u32],
-    groups: usize,
-    levels: usize,
-) -> Result<(u32, u32, Tree, u32, &[u32]), CodeError>
-    requires { groups ≤ 65535 }
-    ensures found { IfOk result (λ r. ReadsRepeat words.now groups levels one_wide r.0 r.1 r.2 r.3 r.4.now) }
-    ensures none { result ≡ Err CodeError.InvalidCode → (lo hi : ℕ) (b : PlainTree) (u : ℕ) (x : List ℕ) → ReadsRepeat words.now groups levels one_wide lo hi b u x → ⊥ }
-{
-    let (skip, more) = word(words)?;
-    let (lo, most) = word(more)?;
-    let (hi, rest) = word(most)?;
-    let (b, until, after) = part(alloc, skip, more_of(one_wide), rest, groups, levels)?;
-    if lo > hi {
-        return Err(CodeError::InvalidCode);
-    }
-    if !is_wide(one_wide, &b) {
-        return Err(CodeError::InvalidCode);
-    }
-    Ok((lo, hi, b, until, after))
+/// What a repeat has before its body.
+#[derive(Clone, Copy)]
+struct Counts {
+    skip: u32,
+    least: u32,
+    greatest: u32,
 }
 
-// A repeat of a body of any kind, greedy or lazy, behind its first word.
-#[cycle(decode)]
-pub(crate) fn loop_node(
-    alloc: Global,
-    words: &[u32],
-    groups: usize,
-    levels: usize,
-) -> Result<(Node, &[u32]), CodeError>
-    requires { groups ≤ 65535 }
-    ensures found { IfOk result (λ r. ReadsNode (23 ∷ words.now) groups levels (node_of r.0) r.1.now) }
-    ensures none { result ≡ Err CodeError.InvalidCode → (n : PlainNode) (x : List ℕ) → ReadsNode (23 ∷ words.now) groups levels n x → ⊥ }
+fn read_counts(words: &[u32]) -> Read<Counts>
+    ensures { Meets (spec.read_counts words.now) (read_of result) }
 {
-    let (lo, hi, b, until, after) = repeated(alloc, false, words, groups, levels)?;
-    if until == 18 {
-        return Ok((Node::Repeat(RepeatKind::Greedy, false, lo, hi, b), after));
-    }
-    if until == 19 {
-        return Ok((Node::Repeat(RepeatKind::Lazy, false, lo, hi, b), after));
-    }
-    Err(CodeError::InvalidCode)
-}
-
-// A repeat that ends in 1, behind its first word.
-#[cycle(decode)]
-pub(crate) fn repeat_node(
-    alloc: Global,
-    kind: RepeatKind,
-    one_wide: bool,
-    words: &[u32],
-    groups: usize,
-    levels: usize,
-) -> Result<(Node, &[u32]), CodeError>
-    requires until { until_word kind one_wide ≡ 1 }
-    requires count { groups ≤ 65535 }
-    ensures found { IfOk result (λ r. ReadsNode (repeat_word kind one_wide ∷ words.now) groups levels (node_of r.0) r.1.now) }
-    ensures none { result ≡ Err CodeError.InvalidCode → (n : PlainNode) (x : List ℕ) → ReadsNode (repeat_word kind one_wide ∷ words.now) groups levels n x → ⊥ }
-{
-    let (lo, hi, b, until, after) = repeated(alloc, one_wide, words, groups, levels)?;
-    if until != 1 {
+    let (skip, rest) = read_word(words)?;
+    let (least, rest) = read_word(rest)?;
+    let (greatest, rest) = read_word(rest)?;
+    if least > greatest {
         return Err(CodeError::InvalidCode);
     }
-    Ok((Node::Repeat(kind, one_wide, lo, hi, b), after))
+    Ok((
+        Counts {
+            skip,
+            least,
+            greatest,
+        },
+        rest,
+    ))
+}
+
+impl Decoder {
+    // Greedy or lazy by the word after the body.
+    #[cycle(decode)]
+    pub(crate) fn read_repeat<'w>(&self, words: &'w [u32]) -> Read<'w, Node>
+        ensures { let body = read_body self.now.groups self.now.levels in
+            Meets (spec.read_repeat body words.now) (read_as node_of result) }
+    {
+        let (counts, rest) = read_counts(words)?;
+        let ((body, until), rest) = self.read_skipped(counts.skip, 2, rest)?;
+        let kind = match until {
+            MAX_UNTIL => RepeatKind::Greedy,
+            MIN_UNTIL => RepeatKind::Lazy,
+            _ => return Err(CodeError::InvalidCode),
+        };
+        Ok((
+            Node::Repeat(kind, false, counts.least, counts.greatest, body),
+            rest,
+        ))
+    }
+
+    #[cycle(decode)]
+    pub(crate) fn read_possessive<'w>(&self, words: &'w [u32]) -> Read<'w, Node>
+        ensures { let body = read_body self.now.groups self.now.levels in
+            Meets (spec.read_possessive body words.now) (read_as node_of result) }
+    {
+        let (counts, rest) = read_counts(words)?;
+        let (body, rest) = self.read_part(SUCCESS, counts.skip, 2, rest)?;
+        let kind = RepeatKind::Possessive;
+        Ok((
+            Node::Repeat(kind, false, counts.least, counts.greatest, body),
+            rest,
+        ))
+    }
+
+    // A repeat of one unit.
+    #[cycle(decode)]
+    pub(crate) fn read_repeat_one<'w>(&self, kind: RepeatKind, words: &'w [u32]) -> Read<'w, Node>
+        ensures { let body = read_body self.now.groups self.now.levels in
+            Meets (spec.read_repeat_one kind body words.now) (read_as node_of result) }
+    {
+        let (counts, rest) = read_counts(words)?;
+        let (body, rest) = self.read_part(SUCCESS, counts.skip, 3, rest)?;
+        if !body.is_unit() {
+            return Err(CodeError::InvalidCode);
+        }
+        Ok((
+            Node::Repeat(kind, true, counts.least, counts.greatest, body),
+            rest,
+        ))
+    }
+
+    // The repeat of this first word.
+    #[cycle(decode)]
+    pub(crate) fn read_any_repeat<'w>(&self, word: u32, words: &'w [u32]) -> Read<'w, Node>
+        ensures { let body = read_body self.now.groups self.now.levels in
+            Meets (read_from (spec.repeat_readers body) word words.now) (read_as node_of result) }
+    {
+        match word {
+            REPEAT => self.read_repeat(words),
+            REPEAT_ONE => self.read_repeat_one(RepeatKind::Greedy, words),
+            MIN_REPEAT_ONE => self.read_repeat_one(RepeatKind::Lazy, words),
+            POSSESSIVE_REPEAT => self.read_possessive(words),
+            POSSESSIVE_REPEAT_ONE => self.read_repeat_one(RepeatKind::Possessive, words),
+            _ => Err(CodeError::InvalidCode),
+        }
+    }
 }

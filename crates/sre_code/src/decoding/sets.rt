@@ -1,139 +1,115 @@
-//! From words to the items of a set.
+//! Sets and their items.
 
-ghost use Rattle.std.specs.Prelude.{◌≡◌, ℕ, List, [], ◌∷◌, ◌++◌, IfOk, OnOk, false};
-ghost use Rattle.sre_code.specs.PlainTree.{PlainNode};
-ghost use Rattle.sre_code.specs.Reading.{ReadsNode};
+ghost use Rattle.std.specs.Prelude.{◌≡◌, length, suc, Ok, IfOk};
+ghost use Rattle.py_base.specs.Reading.{read_of, read_as};
+ghost use Rattle.sre_code.specs.declared.set.SetItem.TheVariants.{Blocks};
+ghost use Rattle.sre_code.specs.Decoding.Sets as spec;
+ghost use Rattle.sre_code.specs.Decoding.Decoder.{Meets};
 ghost use Rattle.sre_code.specs.TreeView.{node_of};
-ghost use Rattle.sre_code.specs.SetReading.{ReadsItem, ReadsItems, sign_words};
 
-use crate::decoding::words::{at_zero, split, word};
+use crate::decoding::decoder::Read;
+use crate::decoding::words::{after_next, is_next, read_word, read_words};
 use crate::error::CodeError;
+use crate::opcodes::{BIGCHARSET, CATEGORY, CHARSET, FAILURE, LITERAL, NEGATE, RANGE};
 use crate::set::{Items, SetItem, Words};
 use crate::tree::Node;
 use py_base::is_category;
-use std::alloc::Global;
+use std::alloc::{AllocError, Global};
 
-// One unit, behind its first word.
-fn literal_item(words: &[u32]) -> Result<(SetItem, &[u32]), CodeError>
-    ensures found { IfOk result (λ r. ReadsItem (16 ∷ words.now) r.0 r.1.now) }
-    ensures none { result ≡ Err CodeError.InvalidCode → (i : SetItem) (x : List ℕ) → ReadsItem (16 ∷ words.now) i x → ⊥ }
+fn read_unit(words: &[u32]) -> Read<SetItem>
+    ensures { Meets (spec.read_unit words.now) (read_of result) }
 {
-    let (c, after) = word(words)?;
-    Ok((SetItem::Literal(c), after))
+    let (unit, rest) = read_word(words)?;
+    Ok((SetItem::Literal(unit), rest))
 }
 
-// A range, behind its first word.
-fn span_item(words: &[u32]) -> Result<(SetItem, &[u32]), CodeError>
-    ensures found { IfOk result (λ r. ReadsItem (22 ∷ words.now) r.0 r.1.now) }
-    ensures none { result ≡ Err CodeError.InvalidCode → (i : SetItem) (x : List ℕ) → ReadsItem (22 ∷ words.now) i x → ⊥ }
+fn read_range(words: &[u32]) -> Read<SetItem>
+    ensures { Meets (spec.read_range words.now) (read_of result) }
 {
-    let (lo, more) = word(words)?;
-    let (hi, after) = word(more)?;
-    Ok((SetItem::Span(lo, hi), after))
+    let (first, rest) = read_word(words)?;
+    let (last, rest) = read_word(rest)?;
+    Ok((SetItem::Span(first, last), rest))
 }
 
-// A category, behind its first word.
-fn category_item(words: &[u32]) -> Result<(SetItem, &[u32]), CodeError>
-    ensures found { IfOk result (λ r. ReadsItem (8 ∷ words.now) r.0 r.1.now) }
-    ensures none { result ≡ Err CodeError.InvalidCode → (i : SetItem) (x : List ℕ) → ReadsItem (8 ∷ words.now) i x → ⊥ }
+fn read_category(words: &[u32]) -> Read<SetItem>
+    ensures { Meets (spec.read_category words.now) (read_of result) }
 {
-    let (k, after) = word(words)?;
-    if !is_category(k) {
+    let (category, rest) = read_word(words)?;
+    if !is_category(category) {
         return Err(CodeError::InvalidCode);
     }
-    Ok((SetItem::Category(k), after))
+    Ok((SetItem::Category(category), rest))
 }
 
-// Bits, behind its first word.
-fn bits_item(alloc: Global, words: &[u32]) -> Result<(SetItem, &[u32]), CodeError>
-    ensures found { IfOk result (λ r. ReadsItem (9 ∷ words.now) r.0 r.1.now) }
-    ensures none { result ≡ Err CodeError.InvalidCode → (i : SetItem) (x : List ℕ) → ReadsItem (9 ∷ words.now) i x → ⊥ }
+fn read_charset(alloc: Global, words: &[u32]) -> Read<SetItem>
+    ensures { Meets (spec.read_charset words.now) (read_of result) }
 {
-    let (bits, after) = split(words, 8)?;
+    let (bits, rest) = read_words(8, words)?;
     let bits = Words::from_slice(alloc, bits)?;
-    Ok((SetItem::Bits(bits), after))
+    Ok((SetItem::Bits(bits), rest))
 }
 
-// Blocks, behind its first word.
-fn blocks_item(alloc: Global, words: &[u32]) -> Result<(SetItem, &[u32]), CodeError>
-    ensures found { IfOk result (λ r. ReadsItem (10 ∷ words.now) r.0 r.1.now) }
-    ensures none { result ≡ Err CodeError.InvalidCode → (i : SetItem) (x : List ℕ) → ReadsItem (10 ∷ words.now) i x → ⊥ }
+fn blocks(alloc: Global, map: &[u32], blocks: &[u32]) -> Result<SetItem, AllocError>
+    ensures { IfOk result (λ item. item ≡ Blocks map.now blocks.now) }
 {
-    let (n, more) = word(words)?;
-    let (map, rest) = split(more, 64)?;
-    let (blocks, after) = split(rest, 8 * n as usize)?;
     let map = Words::from_slice(alloc, map)?;
     let blocks = Words::from_slice(alloc, blocks)?;
-    Ok((SetItem::Blocks(map, blocks), after))
+    Ok(SetItem::Blocks(map, blocks))
 }
 
-// The item that stands first.
-fn item(alloc: Global, words: &[u32]) -> Result<(SetItem, &[u32]), CodeError>
-    ensures found { IfOk result (λ r. ReadsItem words.now r.0 r.1.now) }
-    ensures none { result ≡ Err CodeError.InvalidCode → (i : SetItem) (x : List ℕ) → ReadsItem words.now i x → ⊥ }
+fn read_bigcharset(alloc: Global, words: &[u32]) -> Read<SetItem>
+    ensures { Meets (spec.read_bigcharset words.now) (read_of result) }
 {
-    let (op, rest) = word(words)?;
-    match op {
-        8 => category_item(rest),
-        9 => bits_item(alloc, rest),
-        10 => blocks_item(alloc, rest),
-        16 => literal_item(rest),
-        22 => span_item(rest),
+    let (count, rest) = read_word(words)?;
+    let (map, rest) = read_words(64, rest)?;
+    let (bits, rest) = read_words(8 * count as usize, rest)?;
+    Ok((blocks(alloc, map, bits)?, rest))
+}
+
+fn read_item(alloc: Global, words: &[u32]) -> Read<SetItem>
+    ensures { Meets (spec.read_item words.now) (read_of result) }
+{
+    let (word, rest) = read_word(words)?;
+    match word {
+        CATEGORY => read_category(rest),
+        CHARSET => read_charset(alloc, rest),
+        BIGCHARSET => read_bigcharset(alloc, rest),
+        LITERAL => read_unit(rest),
+        RANGE => read_range(rest),
         _ => Err(CodeError::InvalidCode),
     }
 }
 
-// Adds an item at the end.
-fn push_item(items: &mut Items, i: SetItem) -> Result<(), CodeError>
-    ensures pushed { OnOk result (items.new ≡ items.old ++ i ∷ []) }
-    ensures none { result ≡ Err CodeError.InvalidCode → ⊥ }
-{
-    items.push(i)?;
-    Ok(())
-}
-
-// The items before a word 0.
-fn items(alloc: Global, words: &[u32]) -> Result<(Items, &[u32]), CodeError>
-    ensures found { IfOk result (λ r. ReadsItems words.now r.0 r.1.now) }
-    ensures none { result ≡ Err CodeError.InvalidCode → (is : List SetItem) (x : List ℕ) → ReadsItems words.now is x → ⊥ }
+fn read_items(alloc: Global, words: &[u32]) -> Read<Items>
+    ensures { Meets (spec.read_items (suc (length words.now)) words.now) (read_of result) }
 {
     let mut items = Items::new(alloc);
     let mut rest = words;
-    while !at_zero(rest) {
-        let (i, after) = item(alloc, rest)?;
-        push_item(&mut items, i)?;
+    while !is_next(FAILURE, rest) {
+        let (item, after) = read_item(alloc, rest)?;
+        items.push(item)?;
         rest = after;
     }
-    let (_zero, after) = word(rest)?;
-    Ok((items, after))
+    Ok((items, after_next(rest)))
 }
 
-// Whether a set is negated, and what stands behind.
-fn sign(words: &[u32]) -> (bool, &[u32])
-    ensures same { words.now ≡ sign_words result.0 result.1.now }
-    ensures plain { (zs : List ℕ) → result.0 ≡ false → words.now ≡ 21 ∷ zs → ⊥ }
+fn read_negate(words: &[u32]) -> (bool, &[u32])
+    ensures { spec.read_negate words.now ≡ Ok (result.0, result.1.now) }
 {
     match words {
-        [21, rest @ ..] => (true, rest),
+        [NEGATE, rest @ ..] => (true, rest),
         _ => (false, words),
     }
 }
 
-// A set, behind its first word.
-pub(crate) fn one_of(
-    alloc: Global,
-    words: &[u32],
-    groups: usize,
-    levels: usize,
-) -> Result<(Node, &[u32]), CodeError>
-    ensures found { IfOk result (λ r. ReadsNode (13 ∷ words.now) groups levels (node_of r.0) r.1.now) }
-    ensures none { result ≡ Err CodeError.InvalidCode → (n : PlainNode) (x : List ℕ) → ReadsNode (13 ∷ words.now) groups levels n x → ⊥ }
+pub(crate) fn read_in(alloc: Global, words: &[u32]) -> Read<Node>
+    ensures { Meets (spec.read_in words.now) (read_as node_of result) }
 {
-    let (skip, more) = word(words)?;
-    let (negated, rest) = sign(more);
-    let (set, after) = items(alloc, rest)?;
-    if skip as usize != more.len() - after.len() + 1 {
+    let (skip, set) = read_word(words)?;
+    let (negated, rest) = read_negate(set);
+    let (items, rest) = read_items(alloc, rest)?;
+    if skip as usize + rest.len() != set.len() + 1 {
         return Err(CodeError::InvalidCode);
     }
-    Ok((Node::OneOf(negated, set), after))
+    Ok((Node::OneOf(negated, items), rest))
 }

@@ -1,50 +1,59 @@
-//! Words at the front of what is left of a code.
+//! The next words of a code.
 
-ghost use Rattle.std.specs.Prelude.{◌≡◌, ◌<◌, length, [], ◌∷◌, ◌++◌, IfOk};
-ghost use Rattle.sre_code.specs.Reading.{is_end};
-ghost use Rattle.sre_code.specs.SetReading.{zero_first};
+ghost use Rattle.std.specs.Prelude.{◌≡◌, drop};
+ghost use Rattle.py_base.specs.Reading as base;
+ghost use Rattle.py_base.specs.Reading.{read_of, read_as};
+ghost use Rattle.sre_code.specs.Decoding.Words as spec;
+ghost use Rattle.sre_code.specs.Decoding.Decoder.{Meets};
 
+use crate::decoding::decoder::Read;
 use crate::error::CodeError;
+use crate::opcodes::{JUMP, MARK, MAX_UNTIL, MIN_UNTIL, SUCCESS};
 
-// Whether such words are left as stand behind a tree.
-pub(crate) fn at_end(words: &[u32]) -> bool
-    ensures { result ≡ is_end words.now }
+pub(crate) fn read_word(words: &[u32]) -> Read<u32>
+    ensures { Meets (spec.read_word words.now) (read_of result) }
 {
     match words {
-        [] => true,
-        [17, mark, ..] => *mark % 2 == 1,
-        [w, ..] => *w == 1 || *w == 15 || *w == 18 || *w == 19,
-    }
-}
-
-// Whether a word 0 stands first.
-pub(crate) fn at_zero(words: &[u32]) -> bool
-    ensures { result ≡ zero_first words.now }
-{
-    match words {
-        [] => false,
-        [w, ..] => *w == 0,
-    }
-}
-
-// The next word.
-pub(crate) fn word(words: &[u32]) -> Result<(u32, &[u32]), CodeError>
-    ensures found { IfOk result (λ r. words.now ≡ r.0 ∷ r.1.now) }
-    ensures none { result ≡ Err CodeError.InvalidCode → words.now ≡ [] }
-{
-    match words {
-        [w, rest @ ..] => Ok((*w, rest)),
+        [word, rest @ ..] => Ok((*word, rest)),
         [] => Err(CodeError::InvalidCode),
     }
 }
 
-// So many words from the front, and the rest.
-pub(crate) fn split(words: &[u32], n: usize) -> Result<(&[u32], &[u32]), CodeError>
-    ensures found { IfOk result (λ r. (words.now ≡ r.0.now ++ r.1.now) × (length r.0.now ≡ n)) }
-    ensures none { result ≡ Err CodeError.InvalidCode → length words.now < n }
+pub(crate) fn read_words(count: usize, words: &[u32]) -> Read<&[u32]>
+    ensures { Meets (spec.read_words count words.now) (read_as (λ part. part.now) result) }
 {
-    if words.len() < n {
+    if words.len() < count {
         return Err(CodeError::InvalidCode);
     }
-    Ok(words.split_at(n))
+    Ok(words.split_at(count))
+}
+
+pub(crate) fn is_next(word: u32, words: &[u32]) -> bool
+    ensures { result ≡ base.is_next word words.now }
+{
+    match words {
+        [] => false,
+        [next, ..] => *next == word,
+    }
+}
+
+// The words after the next, which is not looked at.
+pub(crate) fn after_next(words: &[u32]) -> &[u32]
+    ensures { result.now ≡ drop 1 words.now }
+{
+    match words {
+        [] => words,
+        [_, rest @ ..] => rest,
+    }
+}
+
+// Whether a body ends here.
+pub(crate) fn is_end(words: &[u32]) -> bool
+    ensures { result ≡ spec.is_end words.now }
+{
+    match words {
+        [] => true,
+        [MARK, mark, ..] => *mark % 2 == 1,
+        [w, ..] => *w == SUCCESS || *w == JUMP || *w == MAX_UNTIL || *w == MIN_UNTIL,
+    }
 }
