@@ -6,7 +6,7 @@ use Rattle.py_base.proofs.GivesLemmas.{Gives, it, done, reads, passes, skips, sp
 use Rattle.sre_code.specs.declared.opcodes.TheConstants.{SUCCESS, MARK, MAX_UNTIL, MIN_UNTIL}
 use Rattle.sre_code.specs.declared.tree.RepeatKind.{RepeatKind}
 use Rattle.sre_code.specs.declared.tree.RepeatKind.TheVariants.{Greedy, Lazy, Possessive}
-use Rattle.sre_code.specs.PlainTree.{PlainTree, group, repeat, atomic, look, ◌then◌, ◌or◌, is_unit}
+use Rattle.sre_code.specs.PlainTree.{PlainTree, group, repeat, atomic, look, ◌then◌, is_unit}
 use Rattle.sre_code.specs.Spelling.{spell}
 use Rattle.sre_code.specs.Decoding.Decoder.{Body, invalid}
 use Rattle.sre_code.specs.Decoding.Words.{is_odd, is_end}

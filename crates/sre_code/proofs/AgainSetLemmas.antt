@@ -1,5 +1,5 @@
 -- A set that is spelled is read again.
-use Rattle.std.proofs.Common.{◌≡◌, refl, ap, ◌∙◌, ℕ, zero, suc, ◌+◌, ◌-◌, ◌*◌, ◌/◌, ◌%◌, ◌≤◌, ◌<◌, Bool, true, false, List, [], ◌∷◌, ◌++◌, length, append_assoc, arith, length-append}
+use Rattle.std.proofs.Common.{◌≡◌, refl, ap, ◌∙◌, ℕ, zero, suc, ◌+◌, ◌*◌, ◌/◌, ◌%◌, ◌≤◌, ◌<◌, Bool, true, false, List, [], ◌∷◌, ◌++◌, length, append_assoc, arith, length-append}
 use Rattle.std.specs.Prelude.{Ok, if◌then◌else◌}
 use Rattle.std.proofs.lemmas.Bool.{eq-eqb}
 use Rattle.py_base.specs.Reading.{◌and_then◌, is_next}
@@ -7,7 +7,7 @@ use Rattle.py_base.proofs.GivesLemmas.{Gives, it, done, reads, passes, skips, sp
 use Rattle.sre_code.specs.declared.opcodes.TheConstants.{FAILURE, NEGATE}
 use Rattle.sre_code.specs.declared.set.SetItem.{SetItem}
 use Rattle.sre_code.specs.declared.set.SetItem.TheVariants.{Literal, Span, Category, Bits, Blocks}
-use Rattle.sre_code.specs.PlainTree.{one_of, ◌then◌, ◌or◌}
+use Rattle.sre_code.specs.PlainTree.{one_of, ◌then◌}
 use Rattle.sre_code.specs.Spelling.{item_words, item_fits, items_words, items_fit, node_words}
 use Rattle.sre_code.specs.Decoding.Decoder.{Body, invalid}
 use Rattle.sre_code.specs.Decoding.Words.{read_words}

@@ -1,5 +1,5 @@
--- What the loops of the decoder have left to read: items of a set, nodes, alternatives.
-use Rattle.std.proofs.Common.{◌≡◌, refl, sym, ap, ◌∙◌, ℕ, suc, ◌+◌, ◌-◌, ◌<◌, Bool, true, false, List, [], ◌∷◌, ◌++◌, length, drop, append_assoc, arith, length-append}
+-- What the loops of the decoder have left to read (items of a set, nodes, alternatives), and what a body is read by.
+use Rattle.std.proofs.Common.{◌≡◌, refl, sym, ap, ◌∙◌, ℕ, zero, suc, ◌-◌, ◌<◌, Bool, true, false, List, [], ◌∷◌, ◌++◌, length, drop, append_assoc, arith, length-append}
 use Rattle.std.specs.Prelude.{Err, ◌==◌, ◌≢◌, Ok, if◌then◌else◌}
 use Rattle.std.proofs.lemmas.Bool.{eq-eqb, ne_eqb}
 use Rattle.std.proofs.lemmas.List.{append-nil}
@@ -7,7 +7,7 @@ use Rattle.py_base.specs.Reading.{◌and_then◌, is_next}
 use Rattle.sre_code.specs.declared.error.CodeError.{CodeError}
 use Rattle.sre_code.specs.declared.opcodes.TheConstants.{FAILURE, JUMP}
 use Rattle.sre_code.specs.declared.set.SetItem.{SetItem}
-use Rattle.sre_code.specs.PlainTree.{PlainNode, PlainTree, at, nothing, ◌then◌, ◌or◌}
+use Rattle.sre_code.specs.PlainTree.{PlainNode, PlainTree, nothing, ◌then◌}
 use Rattle.sre_code.specs.TreeView.{trees_of}
 use Rattle.sre_code.specs.Spelling.{item_words, node_words, spell}
 use Rattle.sre_code.specs.Decoding.Decoder.{Read, invalid}
@@ -45,10 +45,6 @@ items_more words rest after items item s e l =
 pub items_error : (words rest : List ℕ) (items : List SetItem) (e : CodeError) → is_next FAILURE rest ≡ false → read_item rest ≡ Err e → ItemsLeft words items rest → read_items (suc (length words)) words ≡ Err e
 unfolding item_or
 items_error words rest items e s h l = stopped (Err e) (λ k. ap (λ b. item_or k rest b (read_item rest)) s ∙ ap (item_or k rest false) h) l
-
-pub items_end : (words rest : List ℕ) (items : List SetItem) → is_next FAILURE rest ≡ true → ItemsLeft words items rest → read_items (suc (length words)) words ≡ Ok (items, drop 1 rest)
-unfolding item_or
-items_end words rest items s l = stopped (Ok ([], drop 1 rest)) (λ k. ap (λ b. item_or k rest b (read_item rest)) s) l ∙ ap (λ is. Ok (is, drop 1 rest)) (append-nil items)
 
 -- nodes, before a tree
 abbrev pub before : List Node → PlainTree → PlainTree
@@ -155,3 +151,8 @@ alternatives_wrong_end groups levels left first words rest trees s apart l =
     stopped invalid
     (λ k. ap (λ b. alternative_or groups levels left k rest b (read_alternative (read_body groups levels) rest)) s
     ∙ ap (λ b. if b then Ok ([], drop 1 rest) else invalid) (ne_eqb (length (drop 1 rest)) left apart)) l.reads
+
+-- a body, where one more may be inside
+pub body_is : (groups levels : ℕ) (words : List ℕ) → (levels ≡ 0 → ⊥) → read_body groups levels words ≡ read_tree groups (levels - 1) words
+body_is groups zero words h = absurd (h refl)
+body_is groups (suc levels) words h = let same : levels ≡ suc levels - 1 = omega arith in ap (λ l. read_tree groups l words) same

@@ -2,7 +2,6 @@ mod AgainBodyLemmas
 mod AgainBranchLemmas
 mod AgainLemmas
 mod AgainSetLemmas
-mod DispatchLemmas
 mod LeftLemmas
 mod ListLemmas
 mod SoundBodyLemmas

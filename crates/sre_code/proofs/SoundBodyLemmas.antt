@@ -7,7 +7,7 @@ use Rattle.sre_code.specs.declared.opcodes.TheConstants.{SUCCESS, AT, GROUPREF, 
 use Rattle.sre_code.specs.declared.tree.RepeatKind.{RepeatKind}
 use Rattle.sre_code.specs.declared.tree.RepeatKind.TheVariants.{Greedy, Lazy, Possessive}
 use Rattle.sre_code.specs.declared.decoding.repeats.Counts.{Counts}
-use Rattle.sre_code.specs.PlainTree.{PlainTree, repeat, ◌then◌, ◌or◌, depth, is_unit}
+use Rattle.sre_code.specs.PlainTree.{PlainTree, repeat, depth, is_unit}
 use Rattle.sre_code.specs.Anchors.{is_anchor}
 use Rattle.sre_code.specs.Spelling.{look_word, repeat_word, until_word, repeat_skip, spell, tree_fits, wide_fits}
 use Rattle.sre_code.specs.Decoding.Decoder.{Body}

@@ -6,7 +6,7 @@ use Rattle.std.proofs.lemmas.List.{append-nil}
 use Rattle.py_base.specs.Reading.{is_next}
 use Rattle.py_base.proofs.HoldsLemmas.{Holds, ok, bad, check, guard, then_holds, if_holds, one_holds, many_hold, next_is, weaker}
 use Rattle.sre_code.specs.declared.opcodes.TheConstants.{FAILURE, BRANCH, GROUPREF_EXISTS, JUMP}
-use Rattle.sre_code.specs.PlainTree.{PlainTree, branch, ◌then◌, ◌or◌, depth, trees_depth}
+use Rattle.sre_code.specs.PlainTree.{PlainTree, depth, trees_depth}
 use Rattle.sre_code.specs.TreeView.{trees_of}
 use Rattle.sre_code.specs.Spelling.{spell, alternatives_words, tree_fits, alternatives_fit}
 use Rattle.sre_code.specs.Decoding.Decoder.{Body}

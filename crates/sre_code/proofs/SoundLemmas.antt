@@ -7,7 +7,7 @@ use Rattle.py_base.proofs.HoldsLemmas.{◌also◌, Holds, ok, bad, guard, then_h
 use Rattle.sre_code.specs.declared.error.CodeError.{CodeError}
 use Rattle.sre_code.specs.declared.opcodes.TheConstants.{FAILURE, SUCCESS, ANY, ANY_ALL, INFO, MAXGROUPS, MAXDEPTH}
 use Rattle.sre_code.specs.declared.tree.RepeatKind.TheVariants.{Greedy, Lazy, Possessive}
-use Rattle.sre_code.specs.PlainTree.{PlainNode, PlainTree, fail, any, any_all, at, ◌then◌, ◌or◌, node_depth, depth}
+use Rattle.sre_code.specs.PlainTree.{PlainNode, PlainTree, fail, any, any_all, ◌then◌, node_depth, depth}
 use Rattle.sre_code.specs.Spelling.{node_words, spell, node_fits, tree_fits, info, Spells}
 use Rattle.sre_code.specs.Decoding.Decoder.{Read, Body, invalid}
 use Rattle.sre_code.specs.Decoding.Words.{is_end}

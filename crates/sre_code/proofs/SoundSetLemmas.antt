@@ -1,5 +1,5 @@
 -- What is read as a set is spelled so.
-use Rattle.std.proofs.Common.{◌≡◌, refl, sym, ap, ◌∙◌, ℕ, zero, suc, ◌+◌, ◌-◌, ◌*◌, ◌/◌, ◌≤◌, Bool, true, false, List, [], ◌∷◌, ◌++◌, length, append_assoc, arith, length-append}
+use Rattle.std.proofs.Common.{◌≡◌, refl, sym, ap, ◌∙◌, ℕ, zero, suc, ◌+◌, ◌*◌, ◌/◌, ◌≤◌, Bool, true, false, List, [], ◌∷◌, ◌++◌, length, append_assoc, arith, length-append}
 use Rattle.std.specs.Prelude.{◌==◌}
 use Rattle.std.proofs.lemmas.Bool.{eqb-true}
 use Rattle.py_base.specs.Chars.Categories.{is_category}
@@ -7,7 +7,7 @@ use Rattle.py_base.specs.Reading.{is_next}
 use Rattle.py_base.proofs.HoldsLemmas.{◌also◌, Holds, ok, bad, check, then_holds, if_holds, one_holds, many_hold, next_is, weaker, table_holds}
 use Rattle.sre_code.specs.declared.opcodes.TheConstants.{FAILURE, CATEGORY, CHARSET, BIGCHARSET, IN, LITERAL, NEGATE, RANGE}
 use Rattle.sre_code.specs.declared.set.SetItem.{SetItem}
-use Rattle.sre_code.specs.PlainTree.{PlainNode, ◌then◌, ◌or◌, node_depth}
+use Rattle.sre_code.specs.PlainTree.{PlainNode, node_depth}
 use Rattle.sre_code.specs.Spelling.{item_words, item_fits, items_words, items_fit, set_words, node_words, node_fits}
 use Rattle.sre_code.specs.Decoding.Sets.{read_unit, read_range, read_category, read_charset, read_bigcharset, item_readers, read_item, read_items, read_negate, read_in}
 

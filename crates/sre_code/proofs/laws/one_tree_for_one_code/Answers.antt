@@ -1,4 +1,3 @@
-use Rattle.sre_code.proofs.SoundLemmas.{what_is_read_is_spelled}
 use Rattle.sre_code.proofs.AgainLemmas.{what_is_spelled_is_read}
 use Rattle.sre_code.proofs.laws.one_tree_for_one_code.Goals as goal
 

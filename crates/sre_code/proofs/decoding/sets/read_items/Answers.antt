@@ -4,7 +4,7 @@ use Rattle.py_base.specs.Reading.{is_next}
 use Rattle.py_base.proofs.LoopLemmas.{handed_on}
 use Rattle.sre_code.specs.declared.opcodes.TheConstants.{FAILURE}
 use Rattle.sre_code.specs.Decoding.Decoder.{no_memory}
-use Rattle.sre_code.proofs.LeftLemmas.{items_none, items_more, items_error, items_end, item_shorter}
+use Rattle.sre_code.proofs.LeftLemmas.{items_none, items_more, items_error, item_shorter}
 use Rattle.sre_code.proofs.decoding.sets.read_items.Goals as goal
 
 pub loop-alloc-init : goal.loop-alloc-init

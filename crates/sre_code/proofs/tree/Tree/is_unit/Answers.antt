@@ -1,4 +1,4 @@
-use Rattle.std.proofs.Common.{◌≡◌, ap, sym, ◌∙◌}
+use Rattle.std.proofs.Common.{ap, sym, ◌∙◌}
 use Rattle.sre_code.specs.PlainTree.{is_unit}
 use Rattle.sre_code.proofs.ViewLemmas.{no_unit}
 use Rattle.sre_code.proofs.tree.Tree.is_unit.Goals as goal

@@ -1,12 +1,11 @@
-use Rattle.std.proofs.Common.{rules, ◌≡◌, sym, ap, ◌∙◌, ◌-◌, List, false, true, refl, drop, length}
+use Rattle.std.proofs.Common.{◌≡◌, sym, ap, ◌∙◌, false, true, drop, length}
 use Rattle.std.proofs.lemmas.Result.{err_from_is_err_and}
 use Rattle.py_base.specs.Reading.{is_next}
 use Rattle.py_base.proofs.LoopLemmas.{handed_on}
 use Rattle.sre_code.specs.declared.opcodes.TheConstants.{FAILURE}
 use Rattle.sre_code.specs.Decoding.Decoder.{Limits, no_memory}
 use Rattle.sre_code.specs.Decoding.Words.{is_end}
-use Rattle.sre_code.proofs.LeftLemmas.{nodes_none, nodes_more, nodes_error, nodes_end, node_shorter, alternatives_none, alternatives_more, alternatives_error, alternatives_apart, alternatives_end, alternatives_wrong_end, alternative_shorter}
-use Rattle.sre_code.proofs.DispatchLemmas.{body_is}
+use Rattle.sre_code.proofs.LeftLemmas.{body_is, nodes_none, nodes_more, nodes_error, nodes_end, node_shorter, alternatives_none, alternatives_more, alternatives_error, alternatives_apart, alternatives_end, alternatives_wrong_end}
 use Rattle.sre_code.proofs.decoding.decoder.Decoder.+decode.Goals as goal
 
 pub read_body-returns : goal.read_body-returns
