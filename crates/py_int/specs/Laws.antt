@@ -3,7 +3,7 @@ use Rattle.std.specs.Prelude.{◌≡◌, ◌≢◌, ◌↔◌, ℕ, ℤ, pos, Bo
 use Rattle.py_base.specs.Hash.{int_hash}
 use Rattle.py_int.specs.declared.bytes.ArgByteOrder.{ArgByteOrder}
 use Rattle.py_int.specs.Bits.{bit}
-use Rattle.py_int.specs.Division.{IsDivision, floor_div, floor_mod}
+use Rattle.py_int.specs.Divide.{IsDivision, floor_div, floor_mod}
 use Rattle.py_int.specs.Bytes.{in_order, number_of, bytes_in, holds}
 
 -- the floor of a quotient and what it leaves are the one pair that divides
