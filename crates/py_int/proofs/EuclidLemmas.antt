@@ -77,7 +77,7 @@ step m a b r o n odd s p =
     }
 
 -- at the end the first rest divides both
-common : (m a b r o n : ℕ) (odd : Bool) → State m a b r o n odd → r ≡ 0 → IsGcd m a b
+pub common : (m a b r o n : ℕ) (odd : Bool) → State m a b r o n odd → r ≡ 0 → IsGcd m a b
 common m a b r o n odd s e = s.divisor b (IsGcd-from_zero b r e)
 
 -- a multiple of g that is one more than a multiple of g
@@ -92,23 +92,22 @@ times_of : (g n : ℕ) → g ∣ n → n ≡ g * (n / g)
 times_of g n d = omega (arith, div-add-mod n g, mod-eq-zero_of_dvd g d)
 
 -- no inverse where there is a common divisor past 1
-none_by : (m a g : ℕ) → IsGcd m a g → 2 ≤ g → a < m → (i : ℕ) → (a * i) % m ≢ 1 % m
-none_by m a g d l p i e =
+pub none_by : (m a g : ℕ) → g ∣ m → g ∣ a → 2 ≤ g → a < m → (i : ℕ) → (a * i) % m ≢ 1 % m
+none_by m a g x y l p i e =
     let some : 0 < m = omega arith in
-    let two : 2 ≤ m = omega (arith, le_of_dvd some d.0) in
+    let two : 2 ≤ m = omega (arith, le_of_dvd some x) in
     let o : 1 % m ≡ 1 = mod-eq_of_lt two in
     let w : a * i ≡ m * (a * i / m) + 1 = omega (arith, div-add-mod (a * i) m) in
-    let x = a / g in
-    let y = m / g in
     let q = a * i / m in
-    let s : a * i ≡ g * (a / g) * i = ap (λ n. n * i) (times_of g a d.1) in
-    let t : m * q ≡ g * (m / g) * q = ap (λ n. n * q) (times_of g m d.0) in
+    let s : a * i ≡ g * (a / g) * i = ap (λ n. n * i) (times_of g a y) in
+    let t : m * q ≡ g * (m / g) * q = ap (λ n. n * q) (times_of g m x) in
     apart g (a / g * i) (m / g * (a * i / m)) l (omega arith)
 
 pub nowhere : (m a b r o n : ℕ) (odd : Bool) → State m a b r o n odd → r ≡ 0 → b ≢ 1 → a < m → (i : ℕ) → (a * i) % m ≢ 1 % m
 nowhere m a b r o n odd s e h p =
     let some : 0 < b = s.some in
-    none_by m a b (common m a b r o n odd s e) (omega arith) p
+    let d : IsGcd m a b = common m a b r o n odd s e in
+    none_by m a b d.0 d.1 (omega arith) p
 
 pub found_odd : (m a b r o n : ℕ) → State m a b r o n true → b ≡ 1 → (a * (o % m)) % m ≡ 1 % m
 found_odd m a b r o n s e =

@@ -4,11 +4,14 @@ pub mod BytesLemmas
 pub mod DecimalLemmas
 pub mod DivideLemmas
 pub mod EuclidLemmas
+pub mod InverseLemmas
 pub mod LengthLemmas
 pub mod LiteralLemmas
 pub mod ModularLemmas
+pub mod NearestLemmas
 pub mod OnePairLemmas
 pub mod PowerLemmas
+pub mod ReprLemmas
 pub mod ResidueLemmas
 pub mod RoundLemmas
 pub mod ShiftLemmas

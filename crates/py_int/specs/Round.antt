@@ -1,7 +1,8 @@
--- Numbers rounded to tens, hundreds and so on.
-use Rattle.std.specs.Prelude.{ℕ, ◌+◌, ◌*◌, ◌/◌, ◌%◌, ◌^◌, ◌==◌, ◌&&◌, ◌||◌, nat_lt, ℤ, pos, negsuc, neg_ℤ, unsigned_abs, if◌then◌else◌}
+-- Integers rounded to tens, hundreds and so on.
+use Rattle.std.specs.Prelude.{◌≡◌, ◌≢◌, ◌≤◌, ◌-ℤ◌, ◌*ℤ◌, Bool, false, ℕ, ◌+◌, ◌*◌, ◌/◌, ◌%◌, ◌^◌, ◌==◌, ◌&&◌, ◌||◌, nat_lt, ℤ, pos, negsuc, neg_ℤ, unsigned_abs, if◌then◌else◌}
+use Rattle.py_int.specs.Bits.{is_odd}
 
--- the whole number nearest to n / u, a half going to the even one
+-- the integer nearest to n / u, ties to even
 abbrev pub nearest : ℕ → ℕ → ℕ
 nearest n u =
     if nat_lt u (2 * (n % u)) || ((2 * (n % u) == u) && (n / u % 2 == 1)) then n / u + 1 else n / u
@@ -14,3 +15,13 @@ with_sign_of (negsuc m) n = neg_ℤ (pos n)
 -- the multiple of 10^d nearest to |z|, with the sign of z
 abbrev pub rounded : ℤ → ℕ → ℤ
 rounded z d = with_sign_of z (10 ^ d * nearest (unsigned_abs z) (10 ^ d))
+
+abbrev pub distance : ℤ → ℤ → ℕ
+distance a b = unsigned_abs (a -ℤ b)
+
+-- r is a multiple of u, no multiple of u is nearer to z, and where another one is as near, the quotient of r is even
+pub record IsNearestMultiple (u : ℕ) (z r : ℤ) : Type 0 where
+  pub quotient : ℤ
+  pub multiple : r ≡ pos u *ℤ quotient
+  pub nearest_one : (k : ℤ) → distance z r ≤ distance z (pos u *ℤ k)
+  pub ties_to_even : (k : ℤ) → k ≢ quotient → distance z r ≡ distance z (pos u *ℤ k) → is_odd quotient ≡ false
