@@ -3,7 +3,7 @@ use Rattle.std.specs.Prelude.{ℕ, zero, suc, ◌*◌, ◌-◌, ◌%◌, ◌^◌
 use Rattle.std.specs.Int.Digits.{number_from_digits}
 use Rattle.py_int.specs.declared.bytes.ArgByteOrder.{ArgByteOrder}
 use Rattle.py_int.specs.declared.bytes.ArgByteOrder.TheVariants.{Big, Little}
-use Rattle.py_int.specs.Division.{floor_of}
+use Rattle.py_int.specs.Divide.{floor_of}
 
 -- turns bytes in an order into bytes with the highest first, and back
 abbrev pub in_order : ArgByteOrder → List ℕ → List ℕ

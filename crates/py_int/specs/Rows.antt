@@ -2,13 +2,14 @@
 use Rattle.std.specs.Prelude.{◌≡◌, refl, pos, negsuc, ◌-◌, ◌^◌, [], ◌∷◌, codes, true, false, Ok, Err}
 use Rattle.py_base.specs.declared.error.PyError.TheVariants.{IntTooWide, InvalidLiteral, BadBase}
 use Rattle.py_int.specs.declared.bytes.ArgByteOrder.TheVariants.{Big, Little}
-use Rattle.py_int.specs.Bits.{bit, shifted_left, shifted_right}
+use Rattle.py_int.specs.Bits.{bit}
+use Rattle.py_int.specs.Shift.{shifted_left, shifted_right}
 use Rattle.py_int.specs.Bytes.{bytes_in, holds, in_order, number_of}
-use Rattle.py_int.specs.Division.{divided, floor_mod}
-use Rattle.py_int.specs.Literals.{int_of}
-use Rattle.py_int.specs.Numbers.{carried}
-use Rattle.py_int.specs.Powers.{power}
-use Rattle.py_int.specs.Rounding.{rounded}
+use Rattle.py_int.specs.Divide.{divided, floor_mod}
+use Rattle.py_int.specs.Literal.{int_of}
+use Rattle.py_int.specs.Number.{carried}
+use Rattle.py_int.specs.Power.{power}
+use Rattle.py_int.specs.Round.{rounded}
 
 -- `divmod(-7, 2)` and `divmod(-2 ** 127, -1)`
 pub quotient_down : divided (negsuc 6) (pos 2) ≡ Ok (negsuc 3, pos 1)

@@ -2,7 +2,7 @@
 
 ghost use Rattle.std.specs.Prelude.{◌≡◌, ℤ, pos, ◌+ℤ◌, ◌-ℤ◌, ◌*ℤ◌, neg_ℤ};
 ghost use Rattle.std.specs.Prelude.{unsigned_abs};
-ghost use Rattle.py_int.specs.Numbers.{Carries, Gives};
+ghost use Rattle.py_int.specs.Number.{Carries, Gives};
 
 use crate::number::PyInt;
 use py_base::{PyError, PyResult};

@@ -4,9 +4,9 @@
 ghost use Rattle.std.specs.Prelude.{◌≡◌, ℕ, ◌^◌, ℤ, pos, ◌&&◌, ◌||◌, not};
 ghost use Rattle.std.specs.Prelude.{unsigned_abs, count_ones};
 ghost use Rattle.py_int.specs.Bits.{bit};
-ghost use Rattle.py_int.specs.Division.{floor_mod};
-ghost use Rattle.py_int.specs.Truths.{differ};
-ghost use Rattle.py_int.specs.Sizes.{IsBitLength};
+ghost use Rattle.py_int.specs.Divide.{floor_mod};
+ghost use Rattle.std.proofs.Math.Bool.{xor};
+ghost use Rattle.py_int.specs.Bits.{IsBitLength};
 
 use crate::number::PyInt;
 
@@ -27,7 +27,7 @@ impl PyInt {
 
     /// `self ^ other`.
     pub fn xor(&self, other: PyInt) -> PyInt
-        ensures { (k : ℕ) → bit result k ≡ differ (bit self.now k) (bit other k) }
+        ensures { (k : ℕ) → bit result k ≡ xor (bit self.now k) (bit other k) }
     {
         PyInt::from(self.as_i128() ^ other.as_i128())
     }

@@ -5,8 +5,8 @@ ghost use Rattle.std.specs.Prelude.{◌≡◌, ◌<◌, ◌≤◌, ◌^◌, true
 ghost use Rattle.std.specs.Int.{complement_if};
 ghost use Rattle.std.specs.Int.Digits.{number_from_digits};
 ghost use Rattle.py_base.specs.declared.error.PyError.TheVariants.{NoMemory, NegativeToUnsigned, IntTooBig};
-ghost use Rattle.py_int.specs.Numbers.{Carries};
-ghost use Rattle.py_int.specs.Division.{floor_of};
+ghost use Rattle.py_int.specs.Number.{Carries};
+ghost use Rattle.py_int.specs.Divide.{floor_of};
 ghost use Rattle.py_int.specs.Bytes.{in_order, number_of, bytes_in, holds, lacks_sign, is_within, low_byte, low_bytes, is_high, digits_if};
 
 use crate::number::PyInt;

@@ -5,8 +5,8 @@ ghost use Rattle.std.specs.Prelude.{◌≡◌, ◌≢◌, ◌<◌, ℤ, pos, Ok,
 ghost use Rattle.std.specs.Prelude.{unsigned_abs};
 ghost use Rattle.py_base.specs.declared.error.PyError.TheVariants.{ZeroDivision};
 ghost use Rattle.py_base.specs.declared.error.causes.ZeroKind.TheVariants.{Division, Modulo, Both};
-ghost use Rattle.py_int.specs.Numbers.{Carries};
-ghost use Rattle.py_int.specs.Division.{floor_div, floor_mod, divided};
+ghost use Rattle.py_int.specs.Number.{Carries};
+ghost use Rattle.py_int.specs.Divide.{floor_div, floor_mod, divided};
 
 use crate::number::PyInt;
 use crate::residue::{rest_by, signed_rest};

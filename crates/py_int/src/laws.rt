@@ -1,8 +1,8 @@
-//! Laws of whole numbers.
+//! Laws of integers.
 
 ghost use Rattle.std.specs.Prelude.{◌≡◌, ◌↔◌, ℤ, ◌<ℤ◌, IsTrue, Some};
 ghost use Rattle.std.specs.Ordering.{int_cmp, partial_lt};
-ghost use Rattle.py_int.specs.Laws.{BytesSpellTheNumber, DivisionIsOnePair, EqualNumbersHashAlike, NumbersAreTheirBits};
+ghost use Rattle.py_int.specs.Laws.{BytesSpellTheNumber, DivisionIsOnePair, EqualNumbersHashAlike, NoInverseIsCommonDivisor, NumbersAreTheirBits, ReprReadsBack, RoundingIsNearest};
 
 use crate::number::PyInt;
 use std::cmp::Ordering;
@@ -10,6 +10,22 @@ use std::cmp::Ordering;
 /// The floor of a quotient and what it leaves are the one pair that divides: `divmod` answers it.
 pub fn division_is_one_pair()
     ensures { DivisionIsOnePair }
+{}
+
+/// `pow(base, -1, modulus)` has no answer exactly where both have a common divisor past 1.
+pub fn no_inverse_is_common_divisor()
+    ensures { NoInverseIsCommonDivisor }
+{}
+
+/// What `round` cuts to tens, hundreds and so on is the nearest multiple; of two as near it is the
+/// one of the even quotient.
+pub fn rounding_is_nearest()
+    ensures { RoundingIsNearest }
+{}
+
+/// `int(repr(n))` is the integer, and so is `int(repr(n), 0)`.
+pub fn repr_reads_back()
+    ensures { ReprReadsBack }
 {}
 
 /// `from_bytes` of what `to_bytes` gave is the number, under one byte order and signedness.

@@ -3,27 +3,25 @@
 #![tactic(auto)]
 
 mod arithmetic;
+mod attributes;
 mod bits;
+mod boolean;
 mod bytes;
 mod divide;
+mod from_primitive;
 mod inverse;
 pub mod laws;
 mod literal;
-mod made;
 mod modular;
 mod number;
-mod parts;
 mod power;
 mod primitive;
 mod printing;
 mod residue;
 mod round;
 mod shift;
-#[cfg(test)]
-mod tests;
-mod truth;
 
+pub use boolean::PyBool;
 pub use bytes::ArgByteOrder;
 pub use number::{PyInt, PyIntRef};
 pub use primitive::Primitive;
-pub use truth::PyBool;

@@ -1,39 +1,51 @@
-//! Literals of whole numbers: `int(text, base)` of "Built-in Functions" of the Python Library
-//! Reference.
+//! Literals of integers: `int(text, base)` of "Built-in Functions" of the Python Library Reference,
+//! spelled as in "Integer literals" of the Python Language Reference.
 
-ghost use Rattle.std.specs.Prelude.{◌≡◌, ◌+◌, ◌-◌, ◌*◌, ◌<◌, ◌≤◌, ◌^◌, min, pos, reverse, option_map};
+ghost use Rattle.std.specs.Prelude.{◌≡◌, ◌+◌, ◌-◌, ◌*◌, ◌<◌, ◌≤◌, ◌^◌, min, drop};
 ghost use Rattle.std.specs.Char.{digit_value};
-ghost use Rattle.py_int.specs.Literals.{begins_with, behind_prefix, int_of, is_base, is_blank, literal_result, magnitude, negated, numeral, prefix_base, signed_numeral, without_front, without_prefix};
-ghost use Rattle.py_int.specs.Capped.{capped};
+ghost use Rattle.py_base.specs.Reading.{find};
+ghost use Rattle.py_int.specs.Number.{carried};
+ghost use Rattle.py_int.specs.Literal as spec;
+ghost use Rattle.py_int.specs.Literal.{int_of, literal, literal_result, prefix_bases, saturated};
 
 use crate::number::PyInt;
 use crate::round::give_sign;
-use py_base::{PyError, PyResult};
+use py_base::{PyError, PyResult, trim_ascii_whitespace};
 
-fn is_blank_byte(byte: u8) -> bool
-    ensures { result ≡ is_blank byte }
+fn read_sign(text: &[u8]) -> (bool, &[u8])
+    ensures { (result.0, result.1.now) ≡ spec.read_sign text.now }
 {
-    matches!(byte, 9..=13 | 32)
+    if text.is_empty() {
+        return (false, text);
+    }
+    match text[0] {
+        b'-' => (true, &text[1..]),
+        b'+' => (false, &text[1..]),
+        _ => (false, text),
+    }
 }
 
-fn without_blanks_before(text: &[u8]) -> &[u8]
-    ensures { result.now ≡ without_front text.now }
+fn base_of_letter(letter: u8) -> Option<u8>
+    ensures { result ≡ find prefix_bases letter }
 {
-    let mut start = 0;
-    while start < text.len() && is_blank_byte(text[start]) {
-        start += 1;
+    match letter {
+        b'b' | b'B' => Some(2),
+        b'o' | b'O' => Some(8),
+        b'x' | b'X' => Some(16),
+        _ => None,
     }
-    &text[start..]
 }
 
-fn without_blanks_behind(text: &[u8]) -> &[u8]
-    ensures { result.now ≡ reverse (without_front (reverse text.now)) }
+fn prefix_at(text: &[u8], base: u8) -> Option<u8>
+    ensures { result ≡ spec.prefix_at base text.now }
 {
-    let mut end = text.len();
-    while end > 0 && is_blank_byte(text[end - 1]) {
-        end -= 1;
+    if text.len() < 2 || text[0] != b'0' {
+        return None;
     }
-    &text[..end]
+    match base_of_letter(text[1]) {
+        Some(named) if base == 0 || base == named => Some(named),
+        _ => None,
+    }
 }
 
 fn digit_of(byte: u8) -> u8
@@ -60,133 +72,100 @@ fn grown(size: u128, base: u8, digit: u8) -> u128
     }
 }
 
-// The number of the digits, or 2^128 - 1 where that is less; all of them are read, since a fault
-// behind a number that is too wide is a fault.
-fn magnitude_of(digits: &[u8], base: u8) -> Option<u128>
+// All digits are read, also those of a number that is too wide: a text that is no literal is told
+// before it.
+fn digits(text: &[u8], base: u8) -> Option<u128>
     requires some { 0 < base }
     requires base { base ≤ 36 }
-    ensures { result ≡ capped (magnitude base digits.now) }
+    ensures { result ≡ saturated (spec.digits base text.now) }
 {
     let mut size = 0;
-    let mut seen = false;
-    for byte in digits {
+    let mut after_digit = false;
+    for byte in text {
         let digit = digit_of(*byte);
         if digit < base {
             size = grown(size, base, digit);
-            seen = true;
-        } else if seen && *byte == b'_' {
-            seen = false;
+            after_digit = true;
+        } else if after_digit && *byte == b'_' {
+            after_digit = false;
         } else {
             return None;
         }
     }
-    if seen { Some(size) } else { None }
+    if after_digit { Some(size) } else { None }
 }
 
-fn behind_prefix_of(digits: &[u8], base: u8) -> Option<u128>
-    requires some { 0 < base }
-    requires base { base ≤ 36 }
-    ensures { result ≡ capped (behind_prefix base digits.now) }
+fn skip_underscore(text: &[u8]) -> &[u8]
+    ensures { result.now ≡ spec.skip_underscore text.now }
 {
-    if !digits.is_empty() && digits[0] == b'_' {
-        magnitude_of(&digits[1..], base)
+    if !text.is_empty() && text[0] == b'_' {
+        &text[1..]
     } else {
-        magnitude_of(digits, base)
+        text
     }
 }
 
-fn begins_with_zero(digits: &[u8]) -> bool
-    ensures { result ≡ begins_with 48 digits.now }
+fn begins_with_zero(text: &[u8]) -> bool
+    ensures { result ≡ spec.begins_with_zero text.now }
 {
-    !digits.is_empty() && digits[0] == b'0'
+    !text.is_empty() && text[0] == b'0'
 }
 
-fn without_prefix_of(digits: &[u8], base: u8) -> Option<u128>
+fn plain_digits(text: &[u8], base: u8) -> Option<u128>
     requires { base ≤ 36 }
-    ensures { result ≡ capped (without_prefix base digits.now) }
+    ensures { result ≡ saturated (spec.plain_digits base text.now) }
 {
     if base != 0 {
-        return magnitude_of(digits, base);
+        return digits(text, base);
     }
-    let size = magnitude_of(digits, 10)?;
-    if size != 0 && begins_with_zero(digits) {
+    let size = digits(text, 10)?;
+    if begins_with_zero(text) && size > 0 {
         return None;
     }
     Some(size)
 }
 
-fn base_of_prefix(letter: u8) -> u8
-    ensures value { result ≡ prefix_base letter }
-    ensures small { result ≤ 36 }
+fn unsigned(text: &[u8], base: u8) -> Option<u128>
+    requires { base ≤ 36 }
+    ensures { result ≡ saturated (spec.unsigned base text.now) }
 {
-    match letter {
-        b'b' | b'B' => 2,
-        b'o' | b'O' => 8,
-        b'x' | b'X' => 16,
-        _ => 0,
+    match prefix_at(text, base) {
+        Some(named) => digits(skip_underscore(&text[2..]), named),
+        None => plain_digits(text, base),
     }
 }
 
-fn numeral_of(text: &[u8], base: u8) -> Option<u128>
-    requires { base ≤ 36 }
-    ensures { result ≡ capped (numeral base text.now) }
+fn signed(negative: bool, size: u128) -> PyResult<PyInt>
+    ensures { result ≡ carried (spec.signed negative size) }
 {
-    if text.len() < 2 || text[0] != b'0' {
-        return without_prefix_of(text, base);
-    }
-    let prefix = base_of_prefix(text[1]);
-    if prefix != 0 && (base == 0 || base == prefix) {
-        behind_prefix_of(&text[2..], prefix)
+    if negative {
+        give_sign(size, -1)
     } else {
-        without_prefix_of(text, base)
+        PyInt::try_from_u128(size)
     }
 }
 
-fn positive(size: Option<u128>, base: u8) -> PyResult<PyInt>
-    ensures { result ≡ literal_result base (option_map pos size) }
-{
-    match size {
-        Some(size) => PyInt::try_from_u128(size),
-        None => Err(PyError::InvalidLiteral(u32::from(base))),
-    }
-}
-
-fn negative(size: Option<u128>, base: u8) -> PyResult<PyInt>
-    ensures { result ≡ literal_result base (option_map negated size) }
-{
-    match size {
-        Some(size) => give_sign(size, -1),
-        None => Err(PyError::InvalidLiteral(u32::from(base))),
-    }
-}
-
-fn read(text: &[u8], base: u8) -> PyResult<PyInt>
+fn read_literal(text: &[u8], base: u8) -> PyResult<PyInt>
     requires { base ≤ 36 }
-    ensures { result ≡ literal_result base (signed_numeral base text.now) }
+    ensures { result ≡ literal_result base (literal base text.now) }
 {
-    if text.is_empty() {
-        return Err(PyError::InvalidLiteral(u32::from(base)));
-    }
-    match text[0] {
-        b'-' => negative(numeral_of(&text[1..], base), base),
-        b'+' => positive(numeral_of(&text[1..], base), base),
-        _ => positive(numeral_of(text, base), base),
+    let (negative, rest) = read_sign(text);
+    match unsigned(rest, base) {
+        Some(size) => signed(negative, size),
+        None => Err(PyError::InvalidLiteral(u32::from(base))),
     }
 }
 
 impl PyInt {
-    /// The number of a literal: `BadBase` where the base is neither 0 nor from 2 to 36,
+    /// The integer of a literal: `BadBase` where the base is neither 0 nor from 2 to 36,
     /// `InvalidLiteral` with the base as it was handed in where the text is no literal, and
-    /// `IntTooWide` where it is the literal of a number that is too wide.
+    /// `IntTooWide` where it is the literal of an integer that is too wide.
     pub fn try_int_radix(text: &[u8], base: u32) -> PyResult<PyInt>
         ensures { result ≡ int_of base text.now }
     {
         if base > 36 || base == 1 {
             return Err(PyError::BadBase);
         }
-        read(
-            without_blanks_behind(without_blanks_before(text)),
-            base as u8,
-        )
+        read_literal(trim_ascii_whitespace(text), base as u8)
     }
 }

@@ -1,7 +1,7 @@
 //! A whole number within 128 bits.
 
 ghost use Rattle.std.specs.Prelude.{◌≡◌, ℤ, pos, ◌+ℤ◌, ◌-ℤ◌, ◌*ℤ◌, ◌≤ℤ◌};
-ghost use Rattle.py_int.specs.Numbers.{carried, Carries};
+ghost use Rattle.py_int.specs.Number.{carried, Carries};
 
 use py_base::{PyError, PyResult};
 use std::fmt;

@@ -3,9 +3,9 @@
 ghost use Rattle.std.specs.Prelude.{◌≡◌, ◌≢◌, ◌≤◌, ℤ, pos, ◌<ℤ◌, ◌≤ℤ◌, IfSome, IfNone, IfOk, IfErr, Err, unsigned_abs};
 ghost use Rattle.py_base.specs.declared.error.PyError.TheVariants.{NotCarried, NotInvertible};
 ghost use Rattle.py_base.specs.declared.error.causes.CarryKind.TheVariants.{NegativePower};
-ghost use Rattle.py_int.specs.Numbers.{Carries};
-ghost use Rattle.py_int.specs.Division.{floor_mod};
-ghost use Rattle.py_int.specs.Powers.{power, IsInverse, IsInversePower, IsModularPower};
+ghost use Rattle.py_int.specs.Number.{Carries};
+ghost use Rattle.py_int.specs.Divide.{floor_mod};
+ghost use Rattle.py_int.specs.Power.{power, IsInverse, IsInversePower, IsModularPower};
 
 use crate::arithmetic::carry;
 use crate::inverse::inverse_under;

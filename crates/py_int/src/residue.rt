@@ -1,7 +1,7 @@
 //! Remainders that are not negative, and remainders with a divisor's sign.
 
 ghost use Rattle.std.specs.Prelude.{◌≡◌, ◌≢◌, ◌<◌, pos, unsigned_abs};
-ghost use Rattle.py_int.specs.Residues.{residue, toward};
+ghost use Rattle.py_int.specs.Residue.{residue, toward};
 
 use crate::number::PyInt;
 

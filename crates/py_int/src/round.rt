@@ -3,8 +3,8 @@
 
 ghost use Rattle.std.specs.Prelude.{◌≡◌, ◌<◌, ◌≤◌, ◌*◌, ◌^◌, ℤ, pos, neg_ℤ, ◌<ℤ◌, ◌≤ℤ◌, IfSome, IfNone, Ok, Err};
 ghost use Rattle.std.specs.Prelude.{unsigned_abs};
-ghost use Rattle.py_int.specs.Numbers.{Carries};
-ghost use Rattle.py_int.specs.Rounding.{nearest, rounded, with_sign_of};
+ghost use Rattle.py_int.specs.Number.{Carries};
+ghost use Rattle.py_int.specs.Round.{nearest, rounded, with_sign_of};
 
 use crate::number::PyInt;
 use py_base::{PyError, PyResult};

@@ -3,8 +3,8 @@
 ghost use Rattle.std.specs.Prelude.{◌≡◌, ◌<◌, ◌^◌, ℤ, pos, ◌<ℤ◌, ◌≤ℤ◌, Ok, Err};
 ghost use Rattle.std.specs.Prelude.{unsigned_abs};
 ghost use Rattle.py_base.specs.declared.error.PyError.TheVariants.{NegativeShift};
-ghost use Rattle.py_int.specs.Numbers.{Carries};
-ghost use Rattle.py_int.specs.Bits.{shifted_left, shifted_right};
+ghost use Rattle.py_int.specs.Number.{Carries};
+ghost use Rattle.py_int.specs.Shift.{shifted_left, shifted_right};
 
 use crate::number::PyInt;
 use py_base::{PyError, PyResult};

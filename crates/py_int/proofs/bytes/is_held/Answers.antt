@@ -3,7 +3,7 @@ use Rattle.std.specs.Int.{w128}
 use Rattle.std.specs.Int.Signed.{le_z}
 use Rattle.std.proofs.Math.Nat.{pow-le-pow_right}
 use Rattle.std.proofs.lemmas.Int.{to_z-of_z}
-use Rattle.py_int.proofs.ByteDigits.{held_signed, held_unsigned}
+use Rattle.py_int.proofs.ByteDigitLemmas.{held_signed, held_unsigned}
 use Rattle.py_int.proofs.bytes.is_held.Goals as goal
 
 pub pow-requires : goal.pow-requires

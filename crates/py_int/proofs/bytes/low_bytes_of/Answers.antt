@@ -1,7 +1,7 @@
 use Rattle.std.proofs.Common.{◌≡◌, ◌++◌, ◌∷◌, [], ◌+◌, ◌-◌, ap, ◌∙◌, sym, append_assoc, arith}
 use Rattle.py_int.specs.Bytes.{low_bytes, low_byte}
-use Rattle.py_int.specs.Division.{floor_of}
-use Rattle.py_int.proofs.ByteDigits.{low_bytes_step}
+use Rattle.py_int.specs.Divide.{floor_of}
+use Rattle.py_int.proofs.ByteDigitLemmas.{low_bytes_step}
 use Rattle.py_int.proofs.bytes.low_bytes_of.Goals as goal
 
 pub loop-place-preserved : goal.loop-place-preserved

@@ -1,7 +1,7 @@
 use Rattle.std.proofs.Common.{arith}
 use Rattle.std.proofs.lemmas.Int.Digits.{number_more}
 use Rattle.py_int.specs.Bytes.{in_order, digits_if}
-use Rattle.py_int.proofs.ByteDigits.{too_big, place_within}
+use Rattle.py_int.proofs.ByteDigitLemmas.{too_big, place_within}
 use Rattle.py_int.proofs.bytes.size_of.Goals as goal
 
 pub returns-then-size : goal.returns-then-size

@@ -1,6 +1,6 @@
 use Rattle.std.proofs.Common.{sym, ap, ◌∙◌}
-use Rattle.py_int.specs.Residues.{toward}
-use Rattle.py_int.proofs.Floors.{floor_mod-is}
+use Rattle.py_int.specs.Residue.{toward}
+use Rattle.py_int.proofs.DivideLemmas.{floor_mod-is}
 use Rattle.py_int.proofs.divide.remainder.Goals as goal
 
 pub returns : goal.returns

@@ -1,6 +1,6 @@
 use Rattle.std.proofs.Common.{◌<◌, true, false, arith}
 use Rattle.std.proofs.lemmas.Nat.{mod_below}
-use Rattle.py_int.proofs.Euclid.{State, step, nowhere, found_odd, found_even}
+use Rattle.py_int.proofs.EuclidLemmas.{State, step, nowhere, found_odd, found_even}
 use Rattle.py_int.proofs.inverse.inverse_under.Goals as goal
 
 pub loop-rest-preserved : goal.loop-rest-preserved

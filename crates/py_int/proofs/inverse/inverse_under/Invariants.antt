@@ -1,4 +1,4 @@
-use Rattle.py_int.proofs.Euclid.{State}
+use Rattle.py_int.proofs.EuclidLemmas.{State}
 use Rattle.py_int.proofs.inverse.inverse_under.Given as goal
 
 abbrev pub invariant-loop-rest : goal.invariant-loop-rest

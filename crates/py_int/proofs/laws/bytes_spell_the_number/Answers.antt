@@ -1,4 +1,4 @@
-use Rattle.py_int.proofs.ByteLaws.{round_trip}
+use Rattle.py_int.proofs.BytesLemmas.{round_trip}
 use Rattle.py_int.proofs.laws.bytes_spell_the_number.Goals as goal
 
 pub returns : goal.returns

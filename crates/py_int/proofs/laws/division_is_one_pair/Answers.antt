@@ -1,4 +1,4 @@
-use Rattle.py_int.proofs.OnePair.{one_pair}
+use Rattle.py_int.proofs.OnePairLemmas.{one_pair}
 use Rattle.py_int.proofs.laws.division_is_one_pair.Goals as goal
 
 pub returns : goal.returns

@@ -1,7 +1,7 @@
 use Rattle.std.proofs.Common.{◌≡◌, ◌≢◌, ◌<◌, ◌*◌, ◌%◌, ◌^◌, ℕ, unsigned_abs, refl, ◌∙◌}
-use Rattle.py_int.specs.Powers.{IsInversePower}
-use Rattle.py_int.specs.Residues.{residue, toward}
-use Rattle.py_int.proofs.ResidueLaws.{inverse_power, no_inverse}
+use Rattle.py_int.specs.Power.{IsInversePower}
+use Rattle.py_int.specs.Residue.{residue, toward}
+use Rattle.py_int.proofs.ResidueLemmas.{inverse_power, no_inverse}
 use Rattle.py_int.proofs.power.inverse_power_under.Goals as goal
 
 pub returns-in-Some-clause-ok : goal.returns-in-Some-clause-ok

@@ -1,6 +1,6 @@
 use Rattle.std.proofs.Common.{◌≡◌, ◌%◌, ◌^◌, unsigned_abs, refl, ◌∙◌}
-use Rattle.py_int.specs.Residues.{residue}
-use Rattle.py_int.proofs.ResidueLaws.{power_rest}
+use Rattle.py_int.specs.Residue.{residue}
+use Rattle.py_int.proofs.ResidueLemmas.{power_rest}
 use Rattle.py_int.proofs.power.power_under.Goals as goal
 
 pub returns : goal.returns

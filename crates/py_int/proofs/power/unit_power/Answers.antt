@@ -1,7 +1,7 @@
 use Rattle.std.proofs.Common.{◌≡◌, ◌≤ℤ◌, ◌<ℤ◌, pos, to_z, of_z, ◌∙◌, arith}
 use Rattle.std.specs.Int.{w128}
 use Rattle.std.proofs.lemmas.Int.{ints, to_z-of_z}
-use Rattle.py_int.proofs.PowerLaws.{unit_pos, unit_even, unit_odd}
+use Rattle.py_int.proofs.PowerLemmas.{unit_pos, unit_even, unit_odd}
 use Rattle.py_int.proofs.power.unit_power.Goals as goal
 
 pub returns-then-value-ge0 : goal.returns-then-value-ge0

@@ -1,7 +1,7 @@
 use Rattle.std.proofs.Common.{◌≡◌, ◌<ℤ◌, pos, unsigned_abs, to_z, of_z, ap, ◌∙◌, arith}
 use Rattle.std.specs.Int.{w128}
 use Rattle.std.proofs.lemmas.Int.{ints, to_z-of_z}
-use Rattle.py_int.proofs.Floors.{residue_whole, residue_rest}
+use Rattle.py_int.proofs.DivideLemmas.{residue_whole, residue_rest}
 use Rattle.py_int.proofs.residue.residue_of.Goals as goal
 
 pub returns-then-rest-eq0-clause-value : goal.returns-then-rest-eq0-clause-value

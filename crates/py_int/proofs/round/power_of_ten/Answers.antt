@@ -1,6 +1,6 @@
 use Rattle.std.proofs.Common.{arith}
 use Rattle.std.proofs.Math.Nat.{one-le-pow}
-use Rattle.py_int.proofs.Nearest.{tens_below}
+use Rattle.py_int.proofs.RoundLemmas.{tens_below}
 use Rattle.py_int.proofs.round.power_of_ten.Goals as goal
 
 pub pow-requires : goal.pow-requires

@@ -1,4 +1,4 @@
-use Rattle.py_int.proofs.TwosComplement.{and_bits}
+use Rattle.py_int.proofs.TwosComplementLemmas.{and_bits}
 use Rattle.py_int.proofs.number.PyInt.and.Goals as goal
 
 pub returns : goal.returns

@@ -1,7 +1,7 @@
 use Rattle.std.proofs.Common.{◌≡◌, unsigned_abs, ap, ◌∙◌}
 use Rattle.std.specs.Int.{w128}
 use Rattle.std.proofs.lemmas.Int.{to_z-of_z}
-use Rattle.py_int.proofs.Lengths.{length_by_zeros}
+use Rattle.py_int.proofs.LengthLemmas.{length_by_zeros}
 use Rattle.py_int.proofs.number.PyInt.bit_length.Goals as goal
 
 pub returns : goal.returns

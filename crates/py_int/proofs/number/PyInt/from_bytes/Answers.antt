@@ -1,7 +1,7 @@
 use Rattle.std.proofs.Common.{◌≡◌, ◌<◌, ◌^◌, ap, ◌∙◌}
 use Rattle.std.specs.Int.Digits.{number_from_digits}
 use Rattle.py_int.specs.Bytes.{in_order, is_high, digits_if}
-use Rattle.py_int.proofs.ByteDigits.{refused_bytes, taken_bytes, below_in_order}
+use Rattle.py_int.proofs.ByteDigitLemmas.{refused_bytes, taken_bytes, below_in_order}
 use Rattle.py_int.proofs.number.PyInt.from_bytes.Goals as goal
 
 pub returns-in-None : goal.returns-in-None

@@ -1,6 +1,6 @@
 use Rattle.std.proofs.Common.{arith}
 use Rattle.std.proofs.lemmas.Int.{ints}
-use Rattle.py_int.proofs.Shifts.{refused_up}
+use Rattle.py_int.proofs.ShiftLemmas.{refused_up}
 use Rattle.py_int.proofs.number.PyInt.lshift.Goals as goal
 
 pub returns-then-count-gt-DIGITS-clause-value : goal.returns-then-count-gt-DIGITS-clause-value

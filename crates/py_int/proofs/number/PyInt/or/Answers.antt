@@ -1,4 +1,4 @@
-use Rattle.py_int.proofs.TwosComplement.{or_bits}
+use Rattle.py_int.proofs.TwosComplementLemmas.{or_bits}
 use Rattle.py_int.proofs.number.PyInt.or.Goals as goal
 
 pub returns : goal.returns

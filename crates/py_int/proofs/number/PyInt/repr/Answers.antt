@@ -4,7 +4,7 @@ use Rattle.std.specs.Fmt.{signed_decimal}
 use Rattle.std.specs.Int.{w128}
 use Rattle.std.specs.Str.{chars}
 use Rattle.std.proofs.lemmas.Int.{to_z-of_z}
-use Rattle.py_int.proofs.Decimals.{decimal_chars}
+use Rattle.py_int.proofs.DecimalLemmas.{decimal_chars}
 use Rattle.py_int.proofs.number.PyInt.repr.Goals as goal
 
 if_ok : {T E : Type 0} {P Q : T → Type 0} (r : Result T E) → ((t : T) → P t → Q t) → IfOk r P → IfOk r Q

@@ -1,7 +1,7 @@
 use Rattle.std.proofs.Common.{◌≡◌, ◌<◌, unsigned_abs, ap, ◌∙◌, arith}
 use Rattle.std.specs.Int.{w128}
 use Rattle.std.proofs.lemmas.Int.{to_z-of_z}
-use Rattle.py_int.proofs.Nearest.{rounds_to_zero}
+use Rattle.py_int.proofs.RoundLemmas.{rounds_to_zero}
 use Rattle.py_int.proofs.number.PyInt.round_to.Goals as goal
 
 pub returns-then-digits-gt38-clause-cut : goal.returns-then-digits-gt38-clause-cut

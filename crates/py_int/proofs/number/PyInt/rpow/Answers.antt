@@ -1,7 +1,7 @@
 use Rattle.std.proofs.Common.{◌≡◌, ◌<◌, ◌<ℤ◌, pos, unsigned_abs, FitsSigned, ap, ◌∙◌, arith}
 use Rattle.std.specs.Int.{int_pow, w128}
 use Rattle.std.proofs.lemmas.Int.{ints, to_z-of_z}
-use Rattle.py_int.proofs.PowerLaws.{refused_power, carried_by, power_is}
+use Rattle.py_int.proofs.PowerLemmas.{refused_power, carried_by, power_is}
 use Rattle.py_int.proofs.number.PyInt.rpow.Goals as goal
 
 pub returns-then-exp-gt127-clause-value : goal.returns-then-exp-gt127-clause-value

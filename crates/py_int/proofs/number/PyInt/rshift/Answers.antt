@@ -1,8 +1,8 @@
 use Rattle.std.proofs.Common.{Ok, FitsSigned, arith, ap, ◌∙◌}
 use Rattle.std.specs.Int.{w128}
 use Rattle.std.proofs.lemmas.Int.{ints, to_z-of_z}
-use Rattle.py_int.specs.Bits.{shifted_right}
-use Rattle.py_int.proofs.Shifts.{all_out_by}
+use Rattle.py_int.specs.Shift.{shifted_right}
+use Rattle.py_int.proofs.ShiftLemmas.{all_out_by}
 use Rattle.py_int.proofs.number.PyInt.rshift.Goals as goal
 
 pub returns-then-count-gt-DIGITS-clause-value : goal.returns-then-count-gt-DIGITS-clause-value

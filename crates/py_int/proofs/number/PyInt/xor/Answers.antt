@@ -1,4 +1,4 @@
-use Rattle.py_int.proofs.TwosComplement.{xor_bits}
+use Rattle.py_int.proofs.TwosComplementLemmas.{xor_bits}
 use Rattle.py_int.proofs.number.PyInt.xor.Goals as goal
 
 pub returns : goal.returns
