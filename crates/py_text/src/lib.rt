@@ -17,8 +17,6 @@ mod slices;
 mod strides;
 mod subscript;
 mod sums;
-#[cfg(test)]
-mod tests;
 mod text;
 mod walk;
 mod window;
