@@ -5,14 +5,15 @@ use Rattle.std.specs.Option.{option_to_list}
 use Rattle.std.specs.Cmp.Lexicographic.{pointwise, slice_cmp}
 use Rattle.std.specs.Ordering.{nat_cmp}
 use Rattle.std.specs.declared.cmp.Ordering.TheVariants.{Less}
-use Rattle.py_text.specs.Blanks.{words}
-use Rattle.py_text.specs.Cuts.{cuts, joined, partition, rpartition}
-use Rattle.py_text.specs.Iteration.{Standing, still, next_of, after_next, placed}
+use Rattle.py_text.specs.Whitespace.{split_whitespace}
+use Rattle.py_text.specs.Occurrences.{occurrences, occurs_at, first_in, last_in}
+use Rattle.py_text.specs.Replacing.{join}
+use Rattle.py_text.specs.Partitions.{partition, rpartition}
+use Rattle.py_text.specs.Iterator.{Position, rest_of, next_of, after_next, moved_to}
 use Rattle.py_text.specs.Lines.{split_lines}
-use Rattle.py_text.specs.Search.{stands_in, first_in, last_in}
-use Rattle.py_text.specs.Slices.{places_from, start_of, stop_of}
-use Rattle.py_text.specs.Splits.{split_by, rsplit_by}
-use Rattle.py_text.specs.TextHash.{text_hash}
+use Rattle.py_text.specs.Subscript.{places_from, start_of, stop_of}
+use Rattle.py_text.specs.Pieces.{split_by, rsplit_by}
+use Rattle.py_text.specs.Hash.{text_hash}
 
 -- two texts are equal just where their lists are
 abbrev pub EqualAsLists : Type 0
@@ -35,21 +36,21 @@ abbrev pub LengthOfSum : Type 0
 LengthOfSum = (a b : List ℕ) → length (a ++ b) ≡ length a + length b
 
 -- what so many calls of `next` give
-abbrev pub given : ℕ → Option Standing → List ℕ
+abbrev pub given : ℕ → Option Position → List ℕ
 given zero it = []
 given (suc n) it = option_to_list (next_of it) ++ given n (after_next it)
 
 -- an iterator gives the code points from its place on, and then none for good
 abbrev pub GivesTheRest : Type 0
-GivesTheRest = (it : Option Standing) (n : ℕ) → length (still it) ≤ n → given n it ≡ still it
+GivesTheRest = (it : Option Position) (n : ℕ) → length (rest_of it) ≤ n → given n it ≡ rest_of it
 
 -- an iterator that is put at the end of its text or past it has nothing left
 abbrev pub NothingPastTheEnd : Type 0
-NothingPastTheEnd = (s : Standing) (z : ℤ) → pos (length s.text) ≤ℤ z → still (placed z (Some s)) ≡ []
+NothingPastTheEnd = (s : Position) (z : ℤ) → pos (length s.text) ≤ℤ z → rest_of (moved_to z (Some s)) ≡ []
 
 -- an exhausted iterator stays exhausted
 abbrev pub StaysExhausted : Type 0
-StaysExhausted = (z : ℤ) → (next_of None ≡ None) × (after_next None ≡ None) × (placed z None ≡ None)
+StaysExhausted = (z : ℤ) → (next_of None ≡ None) × (after_next None ≡ None) × (moved_to z None ≡ None)
 
 -- a slice of a list of n items takes at most n places: to look for more gives no more
 abbrev pub NoMorePlaces : Type 0
@@ -58,19 +59,19 @@ NoMorePlaces = (n more : ℕ) (start stop : Option ℤ) (step : ℤ) → step �
 
 -- where x stands in a part of a text, the first place found is there and not past it
 abbrev pub FirstIsLeast : Type 0
-FirstIsLeast = (x L : List ℕ) (b e a : ℕ) → stands_in x L b e a ≡ true → (c : ℕ) × (first_in x L b e ≡ Some c) × (stands_in x L b e c ≡ true) × (c ≤ a)
+FirstIsLeast = (x L : List ℕ) (b e a : ℕ) → occurs_at x L b e a ≡ true → (c : ℕ) × (first_in x L b e ≡ Some c) × (occurs_at x L b e c ≡ true) × (c ≤ a)
 
 -- and the last place found is not before it
 abbrev pub LastIsGreatest : Type 0
-LastIsGreatest = (x L : List ℕ) (b e a : ℕ) → stands_in x L b e a ≡ true → (c : ℕ) × (last_in x L b e ≡ Some c) × (stands_in x L b e c ≡ true) × (a ≤ c)
+LastIsGreatest = (x L : List ℕ) (b e a : ℕ) → occurs_at x L b e a ≡ true → (c : ℕ) × (last_in x L b e ≡ Some c) × (occurs_at x L b e c ≡ true) × (a ≤ c)
 
 -- asking for more places than code points and one gives no more
 abbrev pub NoMoreCuts : Type 0
-NoMoreCuts = (k : ℕ) (x L : List ℕ) → length L < k → cuts k x L 0 (length L) ≡ cuts (length L + 1) x L 0 (length L)
+NoMoreCuts = (k : ℕ) (x L : List ℕ) → length L < k → occurrences k x L 0 (length L) ≡ occurrences (length L + 1) x L 0 (length L)
 
 -- nor does asking for more words than code points
 abbrev pub NoMoreWords : Type 0
-NoMoreWords = (k : ℕ) (L : List ℕ) → length L < k → words k L ≡ words (length L + 1) L
+NoMoreWords = (k : ℕ) (L : List ℕ) → length L < k → split_whitespace k L ≡ split_whitespace (length L + 1) L
 
 -- the lines with their ends, joined, are the text
 abbrev pub LinesAreTheText : Type 0
@@ -78,11 +79,11 @@ LinesAreTheText = (L : List ℕ) → concat (split_lines true L) ≡ L
 
 -- the pieces of `split`, joined by a separator that is not empty, are the text, for each maxsplit
 abbrev pub PiecesAreTheText : Type 0
-PiecesAreTheText = (x L : List ℕ) (m : ℤ) → x ≢ [] → joined x (split_by (Some x) m L) ≡ L
+PiecesAreTheText = (x L : List ℕ) (m : ℤ) → x ≢ [] → join x (split_by (Some x) m L) ≡ L
 
 -- and so are those of `rsplit`
 abbrev pub PiecesFromRightAreTheText : Type 0
-PiecesFromRightAreTheText = (x L : List ℕ) (m : ℤ) → x ≢ [] → joined x (rsplit_by (Some x) m L) ≡ L
+PiecesFromRightAreTheText = (x L : List ℕ) (m : ℤ) → x ≢ [] → join x (rsplit_by (Some x) m L) ≡ L
 
 -- front, mid and back of a partition, joined, are the text
 abbrev pub PartsAreTheText : Type 0

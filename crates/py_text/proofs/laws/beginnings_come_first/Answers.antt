@@ -1,4 +1,4 @@
-use Rattle.py_text.proofs.TextLaws.{beginning_first}
+use Rattle.py_text.proofs.TextLemmas.{beginning_first}
 use Rattle.py_text.proofs.laws.beginnings_come_first.Goals as goal
 
 pub returns : goal.returns

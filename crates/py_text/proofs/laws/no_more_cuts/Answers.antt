@@ -1,4 +1,4 @@
-use Rattle.py_text.proofs.JoinLaws.{cuts_are_few}
+use Rattle.py_text.proofs.LawLemmas.{cuts_are_few}
 use Rattle.py_text.proofs.laws.no_more_cuts.Goals as goal
 
 pub returns : goal.returns

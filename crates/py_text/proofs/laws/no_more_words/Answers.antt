@@ -1,4 +1,4 @@
-use Rattle.py_text.proofs.JoinLaws.{words_are_few}
+use Rattle.py_text.proofs.LawLemmas.{words_are_few}
 use Rattle.py_text.proofs.laws.no_more_words.Goals as goal
 
 pub returns : goal.returns

@@ -1,4 +1,4 @@
-use Rattle.py_text.proofs.TextLaws.{first_difference}
+use Rattle.py_text.proofs.TextLemmas.{first_difference}
 use Rattle.py_text.proofs.laws.texts_ordered_by_first_difference.Goals as goal
 
 pub returns : goal.returns
