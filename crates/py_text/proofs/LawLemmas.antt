@@ -11,7 +11,7 @@ use Rattle.py_text.specs.Replacing.{join}
 use Rattle.py_text.specs.Mirror.{mirrored}
 use Rattle.py_text.specs.Partitions.{partition, rpartition, parted_at}
 use Rattle.py_text.specs.Lines.{closes_line, onto_first_line, whole_lines}
-use Rattle.py_text.specs.Laws.{FirstIsLeast, LastIsGreatest, NoMoreCuts, NoMoreWords, LinesAreTheText, PiecesAreTheText, PiecesFromRightAreTheText, PartsAreTheText}
+use Rattle.py_text.specs.Laws.{FirstIsLeast, LastIsGreatest, NoMoreOccurrences, NoMoreReplaced, NoMoreWhitespacePieces, LinesAreTheText, PiecesAreTheText, PiecesFromRightAreTheText, PartsAreTheText}
 use Rattle.py_text.proofs.OccursLemmas.{OccursAt, occurs_means, below_or_last}
 use Rattle.py_text.proofs.WindowLemmas.{first_means, last_means, first_outside, least_means}
 use Rattle.py_text.proofs.OccurrenceLemmas.{cuts_some, cuts_none, max_one}
@@ -114,10 +114,13 @@ cuts_enough (suc k) j x L b e h =
     let one : suc k + j ≡ suc (k + j) = omega arith in
     ap (λ n. occurrences n x L b e) one ∙ cuts_case k j x L b e (first_in x L b e) refl (λ a g. cuts_enough k j x L (a + max 1 (length x)) e (omega arith))
 
-pub cuts_are_few : NoMoreCuts
-cuts_are_few = λ k x L h.
-    let all : length L + 1 + (k - (length L + 1)) ≡ k = omega arith in
-    sym (ap (λ n. occurrences n x L 0 (length L)) all) ∙ cuts_enough (length L + 1) (k - (length L + 1)) x L 0 (length L) (omega arith)
+pub no_more_occurrences : NoMoreOccurrences
+no_more_occurrences = λ k more x L b e h. cuts_enough k more x L b e h
+
+pub no_more_replaced : NoMoreReplaced
+no_more_replaced = λ k more x y L h.
+    let all : occurrences (k + more) x L 0 (length L) ≡ occurrences k x L 0 (length L) = cuts_enough k more x L 0 (length L) (omega arith) in
+    (ap (pieces L (length x) 0) all, ap (λ l. join y (pieces L (length x) 0 l)) all)
 
 skip_head_case : (q : ℕ → Bool) (d : ℕ) (ds : List ℕ) (c : ℕ) (cs : List ℕ) (t : Bool) → q d ≡ t → (skip_while q ds ≡ c ∷ cs → q c ≡ false) → skip_while q (d ∷ ds) ≡ c ∷ cs → q c ≡ false
 skip_head_case q d ds c cs true h more e = more (sym (ap (λ t. if t then skip_while q ds else d ∷ ds) h) ∙ e)
@@ -157,10 +160,8 @@ words_enough (suc k) j L h =
     let one : suc k + j ≡ suc (k + j) = omega arith in
     ap (λ n. split_whitespace n L) one ∙ words_case k j L (skip_while is_ascii_whitespace L) refl h (λ R g. words_enough k j R g)
 
-pub words_are_few : NoMoreWords
-words_are_few = λ k L h.
-    let all : length L + 1 + (k - (length L + 1)) ≡ k = omega arith in
-    sym (ap (λ n. split_whitespace n L) all) ∙ words_enough (length L + 1) (k - (length L + 1)) L (omega arith)
+pub no_more_pieces : NoMoreWhitespacePieces
+no_more_pieces = λ k more L h. words_enough k more L h
 
 -- the first and the last place
 least_case : (p : ℕ → Bool) (n : ℕ) (o : Option ℕ) → p n ≡ true → ((c : ℕ) → o ≡ Some c → (p c ≡ true) × (c < n)) → (c : ℕ) × (option_or o (if p n then Some n else None) ≡ Some c) × (p c ≡ true) × (c ≤ n)

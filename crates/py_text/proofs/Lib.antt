@@ -1,5 +1,6 @@
 pub mod AffixLemmas
 pub mod AsciiLemmas
+pub mod BetweenLemmas
 pub mod CursorLemmas
 pub mod EndLemmas
 pub mod LawLemmas

@@ -1,31 +1,41 @@
--- Laws of texts.
-use Rattle.std.specs.Prelude.{◌≡◌, ◌<◌, ◌≤◌, ◌≤ℤ◌, ◌↔◌, ◌≢◌, ℕ, ◌+◌, zero, suc, ℤ, pos, nat_eq, IsTrue, true, List, [], ◌∷◌, ◌++◌, length, Option, Some, None}
+-- Laws of texts and bytes.
+use Rattle.std.specs.Prelude.{◌≡◌, ◌<◌, ◌≤◌, ◌≤ℤ◌, ◌↔◌, ◌≢◌, ⊤, ℕ, ◌+◌, zero, suc, ℤ, pos, nat_eq, Bool, IsTrue, true, false, All, List, [], ◌∷◌, ◌++◌, length, Option, Some, None}
 use Rattle.std.specs.List.{concat}
 use Rattle.std.specs.Option.{option_to_list}
-use Rattle.std.specs.Cmp.Lexicographic.{pointwise, slice_cmp}
-use Rattle.std.specs.Ordering.{nat_cmp}
-use Rattle.std.specs.declared.cmp.Ordering.TheVariants.{Less}
+use Rattle.std.specs.Cmp.Lexicographic.{pointwise}
+use Rattle.std.specs.declared.cmp.Ordering.{Ordering}
+use Rattle.std.specs.declared.cmp.Ordering.TheVariants.{Less, Equal, Greater}
+use Rattle.py_base.specs.Chars.Whitespace.{is_ascii_whitespace}
 use Rattle.py_text.specs.Whitespace.{split_whitespace}
 use Rattle.py_text.specs.Occurrences.{occurrences, occurs_at, first_in, last_in}
-use Rattle.py_text.specs.Replacing.{join}
+use Rattle.py_text.specs.Replacing.{join, replace}
 use Rattle.py_text.specs.Partitions.{partition, rpartition}
 use Rattle.py_text.specs.Iterator.{Position, rest_of, next_of, after_next, moved_to}
 use Rattle.py_text.specs.Lines.{split_lines}
 use Rattle.py_text.specs.Subscript.{places_from, start_of, stop_of}
-use Rattle.py_text.specs.Pieces.{split_by, rsplit_by}
+use Rattle.py_text.specs.Pieces.{split, split_by, rsplit_by}
 use Rattle.py_text.specs.Hash.{text_hash}
 
--- two texts are equal just where their lists are
-abbrev pub EqualAsLists : Type 0
-EqualAsLists = (a b : List ℕ) → IsTrue (pointwise nat_eq a b) ↔ (a ≡ b)
+-- an equality of lists: two are equal exactly where they are one list
+abbrev pub AreEqualAsLists : (List ℕ → List ℕ → Bool) → Type 0
+AreEqualAsLists eq = (a b : List ℕ) → IsTrue (eq a b) ↔ (a ≡ b)
 
--- the first code point that differs orders two texts
-abbrev pub OrderedByFirstDifference : Type 0
-OrderedByFirstDifference = (front xs ys : List ℕ) (c d : ℕ) → c < d → slice_cmp nat_cmp (front ++ c ∷ xs) (front ++ d ∷ ys) ≡ Less
+-- an order of lists: the first item that differs decides
+abbrev pub AreOrderedByFirstDifference : (List ℕ → List ℕ → Ordering) → Type 0
+AreOrderedByFirstDifference cmp = (start xs ys : List ℕ) (c d : ℕ) → c < d
+    → (cmp (start ++ c ∷ xs) (start ++ d ∷ ys) ≡ Less) × (cmp (start ++ d ∷ ys) (start ++ c ∷ xs) ≡ Greater)
 
--- a text comes after what it begins with
-abbrev pub BeginningsFirst : Type 0
-BeginningsFirst = (front xs : List ℕ) (c : ℕ) → slice_cmp nat_cmp front (front ++ c ∷ xs) ≡ Less
+-- a list comes after each of its proper prefixes
+abbrev pub HavePrefixesFirst : (List ℕ → List ℕ → Ordering) → Type 0
+HavePrefixesFirst cmp = (prefix xs : List ℕ) (c : ℕ) → (cmp prefix (prefix ++ c ∷ xs) ≡ Less) × (cmp (prefix ++ c ∷ xs) prefix ≡ Greater)
+
+-- two are equal in the order exactly where they are one list
+abbrev pub AreEqualInOrder : (List ℕ → List ℕ → Ordering) → Type 0
+AreEqualInOrder cmp = (a b : List ℕ) → (cmp a b ≡ Equal) ↔ (a ≡ b)
+
+-- a partial order that is the order
+abbrev pub AreComparedAsOrdered : (List ℕ → List ℕ → Option Ordering) → (List ℕ → List ℕ → Ordering) → Type 0
+AreComparedAsOrdered partial_cmp cmp = (a b : List ℕ) → partial_cmp a b ≡ Some (cmp a b)
 
 -- equal texts hash alike, under each seed
 abbrev pub EqualHashes : Type 0
@@ -65,13 +75,36 @@ FirstIsLeast = (x L : List ℕ) (b e a : ℕ) → occurs_at x L b e a ≡ true �
 abbrev pub LastIsGreatest : Type 0
 LastIsGreatest = (x L : List ℕ) (b e a : ℕ) → occurs_at x L b e a ≡ true → (c : ℕ) × (last_in x L b e ≡ Some c) × (occurs_at x L b e c ≡ true) × (a ≤ c)
 
--- asking for more places than code points and one gives no more
-abbrev pub NoMoreCuts : Type 0
-NoMoreCuts = (k : ℕ) (x L : List ℕ) → length L < k → occurrences k x L 0 (length L) ≡ occurrences (length L + 1) x L 0 (length L)
+-- a window from b to e has at most e + 1 - b places: to look for more gives no more
+abbrev pub NoMoreOccurrences : Type 0
+NoMoreOccurrences = (k more : ℕ) (x L : List ℕ) (b e : ℕ) → e < b + k → occurrences (k + more) x L b e ≡ occurrences k x L b e
 
--- nor does asking for more words than code points
-abbrev pub NoMoreWords : Type 0
-NoMoreWords = (k : ℕ) (L : List ℕ) → length L < k → split_whitespace k L ≡ split_whitespace (length L + 1) L
+-- nor does a greater limit change what `split` and `replace` give
+abbrev pub NoMoreReplaced : Type 0
+NoMoreReplaced = (k more : ℕ) (x y L : List ℕ) → length L < k → (split (k + more) x L ≡ split k x L) × (replace (k + more) x y L ≡ replace k x y L)
+
+-- a text has at most as many pieces between whitespace as code points
+abbrev pub NoMoreWhitespacePieces : Type 0
+NoMoreWhitespacePieces = (k more : ℕ) (L : List ℕ) → length L ≤ k → split_whitespace (k + more) L ≡ split_whitespace k L
+
+-- P holds of each but the last
+abbrev pub AllButLast : (List ℕ → Type 0) → List (List ℕ) → Type 0
+AllButLast P [] = ⊤
+AllButLast P (p ∷ []) = ⊤
+AllButLast P (p ∷ q ∷ ps) = P p × AllButLast P (q ∷ ps)
+
+-- no code point of the list is whitespace
+abbrev pub HasNoWhitespace : List ℕ → Type 0
+HasNoWhitespace p = All (λ c. is_ascii_whitespace c ≡ false) p
+
+-- pieces between whitespace
+pub record AreBetweenWhitespace (ps : List (List ℕ)) : Type 0 where
+  pub not_empty : All (λ p. p ≢ []) ps
+  pub no_whitespace : AllButLast HasNoWhitespace ps
+
+-- the pieces of `split` without a separator are such, for each maxsplit
+abbrev pub PiecesBetweenWhitespace : Type 0
+PiecesBetweenWhitespace = (m : ℤ) (L : List ℕ) → AreBetweenWhitespace (split_by None m L)
 
 -- the lines with their ends, joined, are the text
 abbrev pub LinesAreTheText : Type 0
