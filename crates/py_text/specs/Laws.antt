@@ -1,30 +1,41 @@
--- Laws of texts.
-use Rattle.std.specs.Prelude.{◌≡◌, ◌<◌, ◌≤◌, ◌≤ℤ◌, ◌↔◌, ◌≢◌, ℕ, ◌+◌, zero, suc, ℤ, pos, nat_eq, IsTrue, true, List, [], ◌∷◌, ◌++◌, length, Option, Some, None}
+-- Laws of texts and bytes.
+use Rattle.std.specs.Prelude.{◌≡◌, ◌<◌, ◌≤◌, ◌≤ℤ◌, ◌↔◌, ◌≢◌, ⊤, ℕ, ◌+◌, zero, suc, ℤ, pos, nat_eq, Bool, IsTrue, true, false, All, List, [], ◌∷◌, ◌++◌, length, Option, Some, None}
 use Rattle.std.specs.List.{concat}
 use Rattle.std.specs.Option.{option_to_list}
-use Rattle.std.specs.Cmp.Lexicographic.{pointwise, slice_cmp}
-use Rattle.std.specs.Ordering.{nat_cmp}
-use Rattle.std.specs.declared.cmp.Ordering.TheVariants.{Less}
-use Rattle.py_text.specs.Blanks.{words}
-use Rattle.py_text.specs.Cuts.{cuts, joined, partition, rpartition}
-use Rattle.py_text.specs.Iteration.{Standing, still, next_of, after_next, placed}
+use Rattle.std.specs.Cmp.Lexicographic.{pointwise}
+use Rattle.std.specs.declared.cmp.Ordering.{Ordering}
+use Rattle.std.specs.declared.cmp.Ordering.TheVariants.{Less, Equal, Greater}
+use Rattle.py_base.specs.Chars.Whitespace.{is_ascii_whitespace}
+use Rattle.py_text.specs.Whitespace.{split_whitespace}
+use Rattle.py_text.specs.Occurrences.{occurrences, occurs_at, first_in, last_in}
+use Rattle.py_text.specs.Replacing.{join, replace}
+use Rattle.py_text.specs.Partitions.{partition, rpartition}
+use Rattle.py_text.specs.Iterator.{Position, rest_of, next_of, after_next, moved_to}
 use Rattle.py_text.specs.Lines.{split_lines}
-use Rattle.py_text.specs.Search.{stands_in, first_in, last_in}
-use Rattle.py_text.specs.Slices.{places_from, start_of, stop_of}
-use Rattle.py_text.specs.Splits.{split_by, rsplit_by}
-use Rattle.py_text.specs.TextHash.{text_hash}
+use Rattle.py_text.specs.Subscript.{places_from, start_of, stop_of}
+use Rattle.py_text.specs.Pieces.{split, split_by, rsplit_by}
+use Rattle.py_text.specs.Hash.{text_hash}
 
--- two texts are equal just where their lists are
-abbrev pub EqualAsLists : Type 0
-EqualAsLists = (a b : List ℕ) → IsTrue (pointwise nat_eq a b) ↔ (a ≡ b)
+-- an equality of lists: two are equal exactly where they are one list
+abbrev pub AreEqualAsLists : (List ℕ → List ℕ → Bool) → Type 0
+AreEqualAsLists eq = (a b : List ℕ) → IsTrue (eq a b) ↔ (a ≡ b)
 
--- the first code point that differs orders two texts
-abbrev pub OrderedByFirstDifference : Type 0
-OrderedByFirstDifference = (front xs ys : List ℕ) (c d : ℕ) → c < d → slice_cmp nat_cmp (front ++ c ∷ xs) (front ++ d ∷ ys) ≡ Less
+-- an order of lists: the first item that differs decides
+abbrev pub AreOrderedByFirstDifference : (List ℕ → List ℕ → Ordering) → Type 0
+AreOrderedByFirstDifference cmp = (start xs ys : List ℕ) (c d : ℕ) → c < d
+    → (cmp (start ++ c ∷ xs) (start ++ d ∷ ys) ≡ Less) × (cmp (start ++ d ∷ ys) (start ++ c ∷ xs) ≡ Greater)
 
--- a text comes after what it begins with
-abbrev pub BeginningsFirst : Type 0
-BeginningsFirst = (front xs : List ℕ) (c : ℕ) → slice_cmp nat_cmp front (front ++ c ∷ xs) ≡ Less
+-- a list comes after each of its proper prefixes
+abbrev pub HavePrefixesFirst : (List ℕ → List ℕ → Ordering) → Type 0
+HavePrefixesFirst cmp = (prefix xs : List ℕ) (c : ℕ) → (cmp prefix (prefix ++ c ∷ xs) ≡ Less) × (cmp (prefix ++ c ∷ xs) prefix ≡ Greater)
+
+-- two are equal in the order exactly where they are one list
+abbrev pub AreEqualInOrder : (List ℕ → List ℕ → Ordering) → Type 0
+AreEqualInOrder cmp = (a b : List ℕ) → (cmp a b ≡ Equal) ↔ (a ≡ b)
+
+-- a partial order that is the order
+abbrev pub AreComparedAsOrdered : (List ℕ → List ℕ → Option Ordering) → (List ℕ → List ℕ → Ordering) → Type 0
+AreComparedAsOrdered partial_cmp cmp = (a b : List ℕ) → partial_cmp a b ≡ Some (cmp a b)
 
 -- equal texts hash alike, under each seed
 abbrev pub EqualHashes : Type 0
@@ -35,21 +46,21 @@ abbrev pub LengthOfSum : Type 0
 LengthOfSum = (a b : List ℕ) → length (a ++ b) ≡ length a + length b
 
 -- what so many calls of `next` give
-abbrev pub given : ℕ → Option Standing → List ℕ
+abbrev pub given : ℕ → Option Position → List ℕ
 given zero it = []
 given (suc n) it = option_to_list (next_of it) ++ given n (after_next it)
 
 -- an iterator gives the code points from its place on, and then none for good
 abbrev pub GivesTheRest : Type 0
-GivesTheRest = (it : Option Standing) (n : ℕ) → length (still it) ≤ n → given n it ≡ still it
+GivesTheRest = (it : Option Position) (n : ℕ) → length (rest_of it) ≤ n → given n it ≡ rest_of it
 
 -- an iterator that is put at the end of its text or past it has nothing left
 abbrev pub NothingPastTheEnd : Type 0
-NothingPastTheEnd = (s : Standing) (z : ℤ) → pos (length s.text) ≤ℤ z → still (placed z (Some s)) ≡ []
+NothingPastTheEnd = (s : Position) (z : ℤ) → pos (length s.text) ≤ℤ z → rest_of (moved_to z (Some s)) ≡ []
 
 -- an exhausted iterator stays exhausted
 abbrev pub StaysExhausted : Type 0
-StaysExhausted = (z : ℤ) → (next_of None ≡ None) × (after_next None ≡ None) × (placed z None ≡ None)
+StaysExhausted = (z : ℤ) → (next_of None ≡ None) × (after_next None ≡ None) × (moved_to z None ≡ None)
 
 -- a slice of a list of n items takes at most n places: to look for more gives no more
 abbrev pub NoMorePlaces : Type 0
@@ -58,19 +69,42 @@ NoMorePlaces = (n more : ℕ) (start stop : Option ℤ) (step : ℤ) → step �
 
 -- where x stands in a part of a text, the first place found is there and not past it
 abbrev pub FirstIsLeast : Type 0
-FirstIsLeast = (x L : List ℕ) (b e a : ℕ) → stands_in x L b e a ≡ true → (c : ℕ) × (first_in x L b e ≡ Some c) × (stands_in x L b e c ≡ true) × (c ≤ a)
+FirstIsLeast = (x L : List ℕ) (b e a : ℕ) → occurs_at x L b e a ≡ true → (c : ℕ) × (first_in x L b e ≡ Some c) × (occurs_at x L b e c ≡ true) × (c ≤ a)
 
 -- and the last place found is not before it
 abbrev pub LastIsGreatest : Type 0
-LastIsGreatest = (x L : List ℕ) (b e a : ℕ) → stands_in x L b e a ≡ true → (c : ℕ) × (last_in x L b e ≡ Some c) × (stands_in x L b e c ≡ true) × (a ≤ c)
+LastIsGreatest = (x L : List ℕ) (b e a : ℕ) → occurs_at x L b e a ≡ true → (c : ℕ) × (last_in x L b e ≡ Some c) × (occurs_at x L b e c ≡ true) × (a ≤ c)
 
--- asking for more places than code points and one gives no more
-abbrev pub NoMoreCuts : Type 0
-NoMoreCuts = (k : ℕ) (x L : List ℕ) → length L < k → cuts k x L 0 (length L) ≡ cuts (length L + 1) x L 0 (length L)
+-- a window from b to e has at most e + 1 - b places: to look for more gives no more
+abbrev pub NoMoreOccurrences : Type 0
+NoMoreOccurrences = (k more : ℕ) (x L : List ℕ) (b e : ℕ) → e < b + k → occurrences (k + more) x L b e ≡ occurrences k x L b e
 
--- nor does asking for more words than code points
-abbrev pub NoMoreWords : Type 0
-NoMoreWords = (k : ℕ) (L : List ℕ) → length L < k → words k L ≡ words (length L + 1) L
+-- nor does a greater limit change what `split` and `replace` give
+abbrev pub NoMoreReplaced : Type 0
+NoMoreReplaced = (k more : ℕ) (x y L : List ℕ) → length L < k → (split (k + more) x L ≡ split k x L) × (replace (k + more) x y L ≡ replace k x y L)
+
+-- a text has at most as many pieces between whitespace as code points
+abbrev pub NoMoreWhitespacePieces : Type 0
+NoMoreWhitespacePieces = (k more : ℕ) (L : List ℕ) → length L ≤ k → split_whitespace (k + more) L ≡ split_whitespace k L
+
+-- P holds of each but the last
+abbrev pub AllButLast : (List ℕ → Type 0) → List (List ℕ) → Type 0
+AllButLast P [] = ⊤
+AllButLast P (p ∷ []) = ⊤
+AllButLast P (p ∷ q ∷ ps) = P p × AllButLast P (q ∷ ps)
+
+-- no code point of the list is whitespace
+abbrev pub HasNoWhitespace : List ℕ → Type 0
+HasNoWhitespace p = All (λ c. is_ascii_whitespace c ≡ false) p
+
+-- pieces between whitespace
+pub record AreBetweenWhitespace (ps : List (List ℕ)) : Type 0 where
+  pub not_empty : All (λ p. p ≢ []) ps
+  pub no_whitespace : AllButLast HasNoWhitespace ps
+
+-- the pieces of `split` without a separator are such, for each maxsplit
+abbrev pub PiecesBetweenWhitespace : Type 0
+PiecesBetweenWhitespace = (m : ℤ) (L : List ℕ) → AreBetweenWhitespace (split_by None m L)
 
 -- the lines with their ends, joined, are the text
 abbrev pub LinesAreTheText : Type 0
@@ -78,11 +112,11 @@ LinesAreTheText = (L : List ℕ) → concat (split_lines true L) ≡ L
 
 -- the pieces of `split`, joined by a separator that is not empty, are the text, for each maxsplit
 abbrev pub PiecesAreTheText : Type 0
-PiecesAreTheText = (x L : List ℕ) (m : ℤ) → x ≢ [] → joined x (split_by (Some x) m L) ≡ L
+PiecesAreTheText = (x L : List ℕ) (m : ℤ) → x ≢ [] → join x (split_by (Some x) m L) ≡ L
 
 -- and so are those of `rsplit`
 abbrev pub PiecesFromRightAreTheText : Type 0
-PiecesFromRightAreTheText = (x L : List ℕ) (m : ℤ) → x ≢ [] → joined x (rsplit_by (Some x) m L) ≡ L
+PiecesFromRightAreTheText = (x L : List ℕ) (m : ℤ) → x ≢ [] → join x (rsplit_by (Some x) m L) ≡ L
 
 -- front, mid and back of a partition, joined, are the text
 abbrev pub PartsAreTheText : Type 0

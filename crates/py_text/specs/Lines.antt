@@ -2,7 +2,7 @@
 use Rattle.std.specs.Prelude.{ℕ, Bool, false, not, ◌&&◌, ◌==◌, if◌then◌else◌, List, [], ◌∷◌, map, take_while}
 use Rattle.py_base.specs.Chars.Classes.{is_line_end}
 
--- LF stands first
+-- the list begins with LF
 abbrev pub starts_with_lf : List ℕ → Bool
 starts_with_lf [] = false
 starts_with_lf (c ∷ cs) = c == 0x0A
@@ -16,15 +16,15 @@ abbrev pub end_width : List ℕ → ℕ
 end_width [] = 0
 end_width (c ∷ cs) = if c == 0x0D && starts_with_lf cs then 2 else 1
 
--- the lines with c put in front of the first
-abbrev pub in_front : ℕ → List (List ℕ) → List (List ℕ)
-in_front c [] = (c ∷ []) ∷ []
-in_front c (l ∷ ls) = (c ∷ l) ∷ ls
+-- the lines with c before the first
+abbrev pub onto_first_line : ℕ → List (List ℕ) → List (List ℕ)
+onto_first_line c [] = (c ∷ []) ∷ []
+onto_first_line c (l ∷ ls) = (c ∷ l) ∷ ls
 
 -- the lines of L, each with its end
 abbrev pub whole_lines : List ℕ → List (List ℕ)
 whole_lines [] = []
-whole_lines (c ∷ cs) = if closes_line c cs then (c ∷ []) ∷ whole_lines cs else in_front c (whole_lines cs)
+whole_lines (c ∷ cs) = if closes_line c cs then (c ∷ []) ∷ whole_lines cs else onto_first_line c (whole_lines cs)
 
 -- a line up to its end
 abbrev pub without_end : List ℕ → List ℕ

@@ -1,8 +1,9 @@
 -- Worked rows of searches and splits, which compute.
 use Rattle.std.specs.Prelude.{◌≡◌, refl, false, [], ◌∷◌, codes, Some, None, pos, negsuc}
-use Rattle.py_text.specs.Search.{find, rfind}
-use Rattle.py_text.specs.Cuts.{count, rsplit, replace}
-use Rattle.py_text.specs.Blanks.{words, rwords}
+use Rattle.py_text.specs.Search.{find, rfind, count}
+use Rattle.py_text.specs.Pieces.{rsplit}
+use Rattle.py_text.specs.Replacing.{replace}
+use Rattle.py_text.specs.Whitespace.{split_whitespace, rsplit_whitespace}
 use Rattle.py_text.specs.Lines.{split_lines}
 
 -- `"aéé".find("é", -1)`
@@ -26,11 +27,11 @@ count_without_overlap = refl
 pub rsplit_once : rsplit 1 (codes ",") (codes "a,b,c") ≡ codes "a,b" ∷ codes "c" ∷ []
 rsplit_once = refl
 
--- `" a  b ".split(None, 1)`: the last piece keeps its blanks
-pub words_once : words 1 (codes " a  b ") ≡ codes "a" ∷ codes "b " ∷ []
+-- `" a  b ".split(None, 1)`: the last piece keeps its whitespace
+pub words_once : split_whitespace 1 (codes " a  b ") ≡ codes "a" ∷ codes "b " ∷ []
 words_once = refl
 
-pub rwords_once : rwords 1 (codes " a  b ") ≡ codes " a" ∷ codes "b" ∷ []
+pub rwords_once : rsplit_whitespace 1 (codes " a  b ") ≡ codes " a" ∷ codes "b" ∷ []
 rwords_once = refl
 
 -- `"a\r\nb\u{b}c".splitlines()`

@@ -1,8 +1,10 @@
 -- Worked rows of slices, sums and iterators, which compute.
 use Rattle.std.specs.Prelude.{◌≡◌, refl, pos, negsuc, [], ◌∷◌, codes, Some, None}
-use Rattle.py_text.specs.Affixes.{times, without_prefix}
-use Rattle.py_text.specs.Iteration.{placed, still}
-use Rattle.py_text.specs.Slices.{item_of, places_of, slice_of, every}
+use Rattle.py_text.specs.Sums.{times}
+use Rattle.py_text.specs.Affixes.{without_prefix}
+use Rattle.py_text.specs.Iterator.{moved_to, rest_of}
+use Rattle.py_text.specs.Subscript.{item_of, places_of, slice_of}
+use Rattle.py_text.specs.Strides.{every}
 
 -- "abc"[::-1]
 pub backwards : slice_of (codes "abc") None None (negsuc 0) ≡ codes "cba"
@@ -36,5 +38,5 @@ three_times = refl
 pub without_what_it_begins_with : without_prefix (codes "ab") (codes "abab") ≡ codes "ab"
 without_what_it_begins_with = refl
 
-pub put_past_the_end : still (placed (pos 9) (Some (record { text = codes "ab"; place = 1 }))) ≡ []
+pub put_past_the_end : rest_of (moved_to (pos 9) (Some (record { text = codes "ab"; place = 1 }))) ≡ []
 put_past_the_end = refl

@@ -35,10 +35,6 @@ impl From<Vec<u8>> for PyBytes {
 
 impl PyBytes {
     /// A copy of the bytes.
-    ///
-    /// # Errors
-    ///
-    /// `NoMemory`, and no other.
     pub fn copy_of(alloc: Global, bytes: &[u8]) -> PyResult<PyBytes>
         ensures ok { IfOk result (λ made. made ≡ bytes.now) }
         ensures err { IsOkUnless result PyError.NoMemory }
@@ -47,7 +43,7 @@ impl PyBytes {
         Ok(PyBytes { bytes })
     }
 
-    /// The bytes, lent.
+    /// The bytes, borrowed.
     pub fn as_bytes(&self) -> &[u8]
         ensures { result.now ≡ self.now }
     {
@@ -61,11 +57,7 @@ impl PyBytes {
         self.bytes.len()
     }
 
-    /// The same bytes, copied.
-    ///
-    /// # Errors
-    ///
-    /// `NoMemory`, and no other.
+    /// A copy of the bytes.
     pub fn try_clone(&self, alloc: Global) -> PyResult<PyBytes>
         ensures ok { IfOk result (λ made. made ≡ self.now) }
         ensures err { IsOkUnless result PyError.NoMemory }

@@ -1,14 +1,14 @@
 //! An iterator over the code points of a text.
 
 ghost use Rattle.std.specs.Prelude.{◌≡◌, ◌+◌, ◌≤◌, pos, unsigned_abs, Some, length, drop, slice_get, IfSome};
-ghost use Rattle.py_text.specs.Handed.{told};
-ghost use Rattle.py_text.specs.Iteration.{still, next_of, after_next, placed};
-ghost use Rattle.py_text.specs.Slices.{cut_to};
+ghost use Rattle.py_text.specs.IteratorState.{position_of};
+ghost use Rattle.py_text.specs.Iterator.{rest_of, next_of, after_next, moved_to};
+ghost use Rattle.py_text.specs.Subscript.{clamp};
 
 use crate::shared::PyStrRef;
 use std::marker::Model;
 
-// A place in a text, in code points, and how many bytes stand before it.
+// A place in a text, in code points, and how many bytes are before it.
 #[derive(Debug, Drop)]
 struct Cursor {
     text: PyStrRef,
@@ -17,9 +17,9 @@ struct Cursor {
 }
 
 impl Model for Cursor {
-    ghost use Rattle.py_text.specs.Iteration.{Standing, IsCursor};
+    ghost use Rattle.py_text.specs.Iterator.{Position, IsCursor};
 
-    ghost Value = { Standing };
+    ghost Value = { Position };
 
     ghost view = { λ cursor. record { text = cursor.text; place = cursor.place } };
 
@@ -42,7 +42,8 @@ impl Cursor {
     // The code point at the place, and the place moves on.
     fn next(&mut self) -> Option<char>
         ensures item { result ≡ slice_get self.old.text self.old.place }
-        ensures some { IfSome result (λ _. self.new ≡ record { text = self.old.text; place = self.old.place + 1 }) }
+        ensures some { IfSome result (λ _.
+            self.new ≡ record { text = self.old.text; place = self.old.place + 1 }) }
     {
         let rest = &self.text.as_pystr().as_str()[self.offset..];
         let c = rest.chars().next()?;
@@ -57,18 +58,22 @@ impl Cursor {
         self.text.as_pystr().len() - self.place
     }
 
-    // The same text at another place, cut to the text.
-    fn moved_to(self, state: i128) -> Cursor
-        ensures { result ≡ record { text = self.text; place = unsigned_abs (cut_to (pos 0) (pos (length self.text)) state) } }
+    // The same text at another place, clamped to the text.
+    fn moved(self, state: i128) -> Cursor
+        ensures { result
+            ≡ record {
+              text = self.text;
+              place = unsigned_abs (clamp (pos 0) (pos (length self.text)) state);
+            } }
     {
-        let place = cut_place(state, self.text.as_pystr().len());
+        let place = clamped(state, self.text.as_pystr().len());
         Cursor::at(self.text, place)
     }
 }
 
-// A place, cut to a text of `len` code points.
-fn cut_place(state: i128, len: usize) -> usize
-    ensures place { result ≡ unsigned_abs (cut_to (pos 0) (pos len) state) }
+// A place, clamped to a text of `len` code points.
+fn clamped(state: i128, len: usize) -> usize
+    ensures place { result ≡ unsigned_abs (clamp (pos 0) (pos len) state) }
     ensures inside { result ≤ len }
 {
     if state < 0 {
@@ -87,9 +92,9 @@ pub struct PyStrIterator {
 
 impl Model for PyStrIterator {
     ghost use Rattle.std.specs.Prelude.{Option};
-    ghost use Rattle.py_text.specs.Iteration.{Standing};
+    ghost use Rattle.py_text.specs.Iterator.{Position};
 
-    ghost Value = { Option Standing };
+    ghost Value = { Option Position };
 
     ghost view = { λ it. it.cursor };
 }
@@ -103,7 +108,7 @@ pub enum IterState<'a> {
 }
 
 impl PyStrIterator {
-    /// An iterator that stands at the beginning of the text.
+    /// An iterator at the beginning of the text.
     pub fn new(text: PyStrRef) -> PyStrIterator
         ensures { result ≡ Some (record { text = text; place = 0 }) }
     {
@@ -126,7 +131,7 @@ impl PyStrIterator {
 
     /// How many code points are still to come.
     pub fn length_hint(&self) -> usize
-        ensures { result ≡ length (still self.now) }
+        ensures { result ≡ length (rest_of self.now) }
     {
         match &self.cursor {
             Some(cursor) => cursor.left(),
@@ -134,19 +139,19 @@ impl PyStrIterator {
         }
     }
 
-    /// Puts the iterator at a place, in code points, which is cut to the text. An exhausted one stays
-    /// exhausted.
+    /// Moves the iterator to a place, in code points, which is clamped to the text. An exhausted one
+    /// stays exhausted.
     pub fn setstate(&mut self, state: i128)
-        ensures { self.new ≡ placed state self.old }
+        ensures { self.new ≡ moved_to state self.old }
     {
         if let Some(cursor) = self.cursor.take() {
-            self.cursor = Some(cursor.moved_to(state));
+            self.cursor = Some(cursor.moved(state));
         }
     }
 
-    /// The text and the place, lent, or that the iterator is exhausted.
+    /// The text, borrowed, and the place, or that the iterator is exhausted.
     pub fn reduce(&self) -> IterState<'_>
-        ensures { told result ≡ self.now }
+        ensures { position_of result ≡ self.now }
     {
         match &self.cursor {
             Some(cursor) => IterState::Active(&cursor.text, cursor.place),

@@ -1,20 +1,59 @@
-//! Laws of texts.
+//! Laws of texts and bytes: facts that follow from the definitions, and from each type's own equality
+//! and order.
 
-ghost use Rattle.py_text.specs.Laws.{EqualAsLists, OrderedByFirstDifference, BeginningsFirst, EqualHashes, LengthOfSum, GivesTheRest, NothingPastTheEnd, StaysExhausted, NoMorePlaces, FirstIsLeast, LastIsGreatest, NoMoreCuts, NoMoreWords, LinesAreTheText, PiecesAreTheText, PiecesFromRightAreTheText, PartsAreTheText};
+ghost use Rattle.py_text.specs.Laws.{AreEqualAsLists, AreOrderedByFirstDifference, HavePrefixesFirst, AreEqualInOrder, AreComparedAsOrdered, EqualHashes, LengthOfSum, GivesTheRest, NothingPastTheEnd, StaysExhausted, NoMorePlaces, FirstIsLeast, LastIsGreatest, NoMoreOccurrences, NoMoreReplaced, NoMoreWhitespacePieces, PiecesBetweenWhitespace, LinesAreTheText, PiecesAreTheText, PiecesFromRightAreTheText, PartsAreTheText};
 
-/// Two texts are equal just where their code points are.
+use crate::bytes::PyBytes;
+use crate::text::PyStr;
+
+/// Two texts are equal exactly where their code points are.
 pub fn texts_equal_as_lists()
-    ensures { EqualAsLists }
+    ensures { AreEqualAsLists ⟦<PyStr as PartialEq>⟧.eq }
+{}
+
+/// Two bytes objects are equal exactly where their bytes are.
+pub fn bytes_equal_as_lists()
+    ensures { AreEqualAsLists ⟦<PyBytes as PartialEq>⟧.eq }
 {}
 
 /// The first code point that differs orders two texts.
 pub fn texts_ordered_by_first_difference()
-    ensures { OrderedByFirstDifference }
+    ensures { AreOrderedByFirstDifference ⟦<PyStr as Ord>⟧.cmp }
 {}
 
-/// A text comes after what it begins with.
+/// The first byte that differs orders two bytes objects.
+pub fn bytes_ordered_by_first_difference()
+    ensures { AreOrderedByFirstDifference ⟦<PyBytes as Ord>⟧.cmp }
+{}
+
+/// A text comes after each of its prefixes.
 pub fn beginnings_come_first()
-    ensures { BeginningsFirst }
+    ensures { HavePrefixesFirst ⟦<PyStr as Ord>⟧.cmp }
+{}
+
+/// A bytes object comes after each of its prefixes.
+pub fn byte_prefixes_come_first()
+    ensures { HavePrefixesFirst ⟦<PyBytes as Ord>⟧.cmp }
+{}
+
+/// Two texts are equal in the order exactly where their code points are.
+pub fn texts_equal_in_order()
+    ensures { AreEqualInOrder ⟦<PyStr as Ord>⟧.cmp }
+{}
+
+/// Two bytes objects are equal in the order exactly where their bytes are.
+pub fn bytes_equal_in_order()
+    ensures { AreEqualInOrder ⟦<PyBytes as Ord>⟧.cmp }
+{}
+
+/// `<` and `<=` of texts use the order that sorts and maps use.
+pub fn texts_compared_as_ordered()
+    ensures { AreComparedAsOrdered ⟦<PyStr as PartialOrd>⟧.partial_cmp ⟦<PyStr as Ord>⟧.cmp }
+{}
+
+/// `<` and `<=` of bytes objects use the order that sorts and maps use.
+pub fn bytes_compared_as_ordered()
+    ensures { AreComparedAsOrdered ⟦<PyBytes as PartialOrd>⟧.partial_cmp ⟦<PyBytes as Ord>⟧.cmp }
 {}
 
 /// Equal texts hash alike.
@@ -57,14 +96,24 @@ pub fn last_place_is_the_greatest()
     ensures { LastIsGreatest }
 {}
 
-/// No text has more places of a text than code points and one, so that a limit past that is none.
-pub fn no_more_cuts()
-    ensures { NoMoreCuts }
+/// No window has more places of a text than code points and one: a greater limit changes nothing.
+pub fn no_more_occurrences()
+    ensures { NoMoreOccurrences }
 {}
 
-/// No text has more words than code points.
-pub fn no_more_words()
-    ensures { NoMoreWords }
+/// So a greater limit changes nothing in `split` and `replace` either.
+pub fn no_more_replaced()
+    ensures { NoMoreReplaced }
+{}
+
+/// No text has more pieces between whitespace than code points: a greater limit changes nothing.
+pub fn no_more_whitespace_pieces()
+    ensures { NoMoreWhitespacePieces }
+{}
+
+/// Of the pieces of `split` without a separator none is empty, and none but the last has whitespace.
+pub fn pieces_between_whitespace()
+    ensures { PiecesBetweenWhitespace }
 {}
 
 /// The lines with their ends, joined, are the text.

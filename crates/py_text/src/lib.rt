@@ -1,15 +1,18 @@
 //! Texts as lists of code points, bytes, and lists of texts.
 #![tactic(auto)]
 
-mod blanks;
+mod affixes;
 mod bytes;
-mod cut;
+mod hash;
 mod iterator;
 pub mod laws;
 mod lines;
 mod list;
+mod occurrences;
 mod order;
+mod partitions;
 mod pieces;
+mod points;
 mod replacing;
 mod search;
 mod shared;
@@ -17,15 +20,14 @@ mod slices;
 mod strides;
 mod subscript;
 mod sums;
-#[cfg(test)]
-mod tests;
 mod text;
-mod walk;
+mod whitespace;
 mod window;
 
 pub use bytes::PyBytes;
 pub use iterator::{IterState, PyStrIterator};
-pub use list::{Partition, TextList};
+pub use list::TextList;
+pub use partitions::Partition;
 pub use pieces::SplitArgs;
 pub use search::FindArgs;
 pub use shared::PyStrRef;

@@ -1,6 +1,6 @@
-//! A list of texts, and the three parts of a text.
+//! A list of texts.
 
-ghost use Rattle.std.specs.Prelude.{◌≡◌, [], ◌∷◌, ◌++◌, length, reverse, slice_get, option_copied, OnOk, OnErr, IsOkUnless};
+ghost use Rattle.std.specs.Prelude.{◌≡◌, [], ◌∷◌, ◌++◌, length, reverse, slice_get, option_copied, chars, OnOk, OnErr, IsOkUnless};
 
 use crate::text::PyStr;
 use py_base::{PyError, PyResult};
@@ -31,11 +31,7 @@ impl TextList {
         }
     }
 
-    /// Puts a text last.
-    ///
-    /// # Errors
-    ///
-    /// `NoMemory`, and no other. The list is then as before, and the text is dropped.
+    /// Appends a text. On an error the text is dropped.
     pub fn push(&mut self, text: PyStr) -> PyResult<()>
         ensures ok { OnOk result (self.new ≡ self.old ++ text ∷ []) }
         ensures same { OnErr result (self.new ≡ self.old) }
@@ -47,7 +43,15 @@ impl TextList {
         }
     }
 
-    // Turns the list round.
+    /// Appends a copy of a text.
+    pub(crate) fn push_copy(&mut self, alloc: Global, text: &str) -> PyResult<()>
+        ensures ok { OnOk result (self.new ≡ self.old ++ chars text.now ∷ []) }
+        ensures err { IsOkUnless result PyError.NoMemory }
+    {
+        self.push(PyStr::copy_of(alloc, text)?)
+    }
+
+    // Reverses the list.
     pub(crate) fn reverse(&mut self)
         ensures { self.new ≡ reverse self.old }
     {
@@ -61,18 +65,10 @@ impl TextList {
         self.items.len()
     }
 
-    /// The text at a place, from 0.
+    /// The text at a place, counted from 0.
     pub fn get(&self, i: usize) -> Option<&PyStr>
         ensures { option_copied result ≡ slice_get self.now i }
     {
         self.items.get(i)
     }
-}
-
-/// A text in three parts: what stands before a separator, the separator, and what stands behind it.
-#[derive(Clone, Copy, Debug)]
-pub struct Partition<'a> {
-    pub front: &'a str,
-    pub mid: &'a str,
-    pub back: &'a str,
 }

@@ -1,18 +1,17 @@
-//! A text cut at a separator into pieces.
+//! A text split at a separator, or at whitespace, into pieces.
 
 ghost use Rattle.std.specs.Prelude.{◌≡◌, ◌≢◌, ◌<◌, ◌++◌, ◌∷◌, ◌^◌, [], Some, length, map, reverse, chars, IfOk, IsOk, IsOkUnless, Err};
-ghost use Rattle.py_text.specs.Cuts.{limit, split, rsplit, partition, rpartition};
-ghost use Rattle.py_text.specs.Splits.{split_by, rsplit_by};
+ghost use Rattle.py_text.specs.Pieces.{limit, split, rsplit, split_by, rsplit_by};
 
-use crate::blanks;
-use crate::cut::{first_cut, last_cut};
-use crate::list::{Partition, TextList};
+use crate::list::TextList;
+use crate::occurrences::{around_first, around_last};
 use crate::text::PyStr;
+use crate::whitespace;
 use py_base::{PyError, PyResult};
 use std::alloc::Global;
 
-/// Where a text is cut: at `sep`, or with none at runs of blanks, and at most `maxsplit` times; a
-/// negative `maxsplit` sets no limit.
+/// Where a text is split: at `sep`, or with none at runs of ASCII whitespace, and at most `maxsplit`
+/// times; a negative `maxsplit` sets no limit.
 #[derive(Debug, Drop)]
 pub struct SplitArgs {
     pub sep: Option<PyStr>,
@@ -32,7 +31,7 @@ fn finished(alloc: Global, mut list: TextList, rest: &str) -> PyResult<TextList>
     ensures ok { IfOk result (λ pieces. pieces ≡ list ++ chars rest.now ∷ []) }
     ensures err { IsOkUnless result PyError.NoMemory }
 {
-    list.push(PyStr::copy_of(alloc, rest)?)?;
+    list.push_copy(alloc, rest)?;
     Ok(list)
 }
 
@@ -46,9 +45,9 @@ fn split_at(alloc: Global, text: &str, sep: &str, limit: usize) -> PyResult<Text
     let mut rest = text;
     let mut left = limit;
     while left > 0 {
-        match first_cut(rest, sep) {
+        match around_first(rest, sep) {
             Some((front, _, back)) => {
-                list.push(PyStr::copy_of(alloc, front)?)?;
+                list.push_copy(alloc, front)?;
                 rest = back;
                 left -= 1;
             }
@@ -72,16 +71,17 @@ fn rsplit_at(alloc: Global, text: &str, sep: &str, limit: usize) -> PyResult<Tex
 // Those pieces, the last one first.
 fn pieces_from_right(alloc: Global, text: &str, sep: &str, limit: usize) -> PyResult<TextList>
     requires { 0 < length (chars sep.now) }
-    ensures ok { IfOk result (λ pieces. map reverse pieces ≡ split limit (reverse (chars sep.now)) (reverse (chars text.now))) }
+    ensures ok { IfOk result (λ pieces.
+        map reverse pieces ≡ split limit (reverse (chars sep.now)) (reverse (chars text.now))) }
     ensures err { IsOkUnless result PyError.NoMemory }
 {
     let mut list = TextList::new(alloc);
     let mut rest = text;
     let mut left = limit;
     while left > 0 {
-        match last_cut(rest, sep) {
+        match around_last(rest, sep) {
             Some((front, _, back)) => {
-                list.push(PyStr::copy_of(alloc, back)?)?;
+                list.push_copy(alloc, back)?;
                 rest = front;
                 left -= 1;
             }
@@ -91,45 +91,15 @@ fn pieces_from_right(alloc: Global, text: &str, sep: &str, limit: usize) -> PyRe
     finished(alloc, list, rest)
 }
 
-// The text parted at the first separator.
-fn parted<'a>(text: &'a PyStr, sep: &PyStr) -> Partition<'a>
-    ensures { (chars result.front.now, chars result.mid.now, chars result.back.now) ≡ partition sep.now text.now }
-{
-    let whole = text.as_str();
-    match first_cut(whole, sep.as_str()) {
-        Some((front, mid, back)) => Partition { front, mid, back },
-        None => Partition {
-            front: whole,
-            mid: "",
-            back: "",
-        },
-    }
-}
-
-// The text parted at the last separator.
-fn rparted<'a>(text: &'a PyStr, sep: &PyStr) -> Partition<'a>
-    ensures { (chars result.front.now, chars result.mid.now, chars result.back.now) ≡ rpartition sep.now text.now }
-{
-    let whole = text.as_str();
-    match last_cut(whole, sep.as_str()) {
-        Some((front, mid, back)) => Partition { front, mid, back },
-        None => Partition {
-            front: "",
-            mid: "",
-            back: whole,
-        },
-    }
-}
-
 impl PyStr {
-    /// The pieces between the separators, cut from the left. With no separator the text is cut at
-    /// runs of blanks, no piece is empty, and after `maxsplit` pieces the rest from its first
-    /// code point that is no blank is the last piece. (Python Library Reference, String Methods,
+    /// The pieces between the separators, found from the left. With no separator they are between
+    /// runs of ASCII whitespace, and after `maxsplit` of them the rest from its next code point
+    /// that is no whitespace is the last piece. (Python Library Reference, String Methods,
     /// `str.split`.)
     ///
     /// # Errors
     ///
-    /// `EmptySeparator` where the separator is empty, and else `NoMemory` alone.
+    /// `EmptySeparator` where the separator is empty.
     pub fn split(&self, alloc: Global, args: &SplitArgs) -> PyResult<TextList>
         ensures empty { args.now.sep ≡ Some [] → result ≡ Err PyError.EmptySeparator }
         ensures err { args.now.sep ≢ Some [] → IsOkUnless result PyError.NoMemory }
@@ -138,7 +108,7 @@ impl PyStr {
         let text = self.as_str();
         let limit = limit_of(self.len(), args.maxsplit);
         match &args.sep {
-            None => blanks::split_words(alloc, text, limit),
+            None => whitespace::split_whitespace(alloc, text, limit),
             Some(sep) => {
                 if sep.is_empty() {
                     return Err(PyError::EmptySeparator);
@@ -148,12 +118,12 @@ impl PyStr {
         }
     }
 
-    /// The pieces between the separators, cut from the right, in order of the text; the mirror
+    /// The pieces between the separators, found from the right, in order of the text; the mirror
     /// image of `split`. (Python Library Reference, String Methods, `str.rsplit`.)
     ///
     /// # Errors
     ///
-    /// `EmptySeparator` where the separator is empty, and else `NoMemory` alone.
+    /// `EmptySeparator` where the separator is empty.
     pub fn rsplit(&self, alloc: Global, args: &SplitArgs) -> PyResult<TextList>
         ensures empty { args.now.sep ≡ Some [] → result ≡ Err PyError.EmptySeparator }
         ensures err { args.now.sep ≢ Some [] → IsOkUnless result PyError.NoMemory }
@@ -162,7 +132,7 @@ impl PyStr {
         let text = self.as_str();
         let limit = limit_of(self.len(), args.maxsplit);
         match &args.sep {
-            None => blanks::rsplit_words(alloc, text, limit),
+            None => whitespace::rsplit_whitespace(alloc, text, limit),
             Some(sep) => {
                 if sep.is_empty() {
                     return Err(PyError::EmptySeparator);
@@ -170,41 +140,5 @@ impl PyStr {
                 rsplit_at(alloc, text, sep.as_str(), limit)
             }
         }
-    }
-
-    /// The text before the first separator, the separator, and the text behind it, lent; where it
-    /// is not there, the text and two empty texts. It takes no memory. (Python Library Reference,
-    /// String Methods, `str.partition`.)
-    ///
-    /// # Errors
-    ///
-    /// `EmptySeparator` exactly where the separator is empty.
-    pub fn partition<'a>(&'a self, sep: &PyStr) -> PyResult<Partition<'a>>
-        ensures empty { sep.now ≡ [] → result ≡ Err PyError.EmptySeparator }
-        ensures there { sep.now ≢ [] → IsOk result }
-        ensures ok { IfOk result (λ p. (chars p.front.now, chars p.mid.now, chars p.back.now) ≡ partition sep.now self.now) }
-    {
-        if sep.is_empty() {
-            return Err(PyError::EmptySeparator);
-        }
-        Ok(parted(self, sep))
-    }
-
-    /// The text before the last separator, the separator, and the text behind it, lent; where it
-    /// is not there, two empty texts and the text. It takes no memory. (Python Library Reference,
-    /// String Methods, `str.rpartition`.)
-    ///
-    /// # Errors
-    ///
-    /// `EmptySeparator` exactly where the separator is empty.
-    pub fn rpartition<'a>(&'a self, sep: &PyStr) -> PyResult<Partition<'a>>
-        ensures empty { sep.now ≡ [] → result ≡ Err PyError.EmptySeparator }
-        ensures there { sep.now ≢ [] → IsOk result }
-        ensures ok { IfOk result (λ p. (chars p.front.now, chars p.mid.now, chars p.back.now) ≡ rpartition sep.now self.now) }
-    {
-        if sep.is_empty() {
-            return Err(PyError::EmptySeparator);
-        }
-        Ok(rparted(self, sep))
     }
 }

@@ -1,10 +1,10 @@
 //! Searches for a text in a window of a text.
 
-ghost use Rattle.std.specs.Prelude.{◌≡◌, ℕ, ◌≤◌, ◌<◌, ◌^◌, IfSome, length, chars, slice_range, is_some, ok_or};
-ghost use Rattle.py_text.specs.Search.{first_in, find, rfind, place_or_minus_one, begins_with, ends_with};
-ghost use Rattle.py_text.specs.Cuts.{count, cuts};
+ghost use Rattle.std.specs.Prelude.{◌≡◌, ◌≤◌, ◌<◌, ◌^◌, IfSome, length, chars, slice_range, is_some, ok_or};
+ghost use Rattle.py_text.specs.Occurrences.{first_in, IsOccurrenceCount};
+ghost use Rattle.py_text.specs.Search.{find, rfind, place_or_minus_one, begins_with, ends_with, count};
 
-use crate::cut::{first_cut, first_place, last_place};
+use crate::occurrences::{around_first, first_place, last_place};
 use crate::text::PyStr;
 use crate::window::window_of;
 use py_base::{PyError, PyResult};
@@ -18,7 +18,7 @@ pub struct FindArgs {
     pub end: Option<i128>,
 }
 
-// The code points from `from` to `to`, lent.
+// The code points from `from` to `to`, borrowed.
 fn between(text: &PyStr, from: usize, to: usize) -> &str
     requires order { from ≤ to }
     requires inside { to ≤ length text.now }
@@ -39,7 +39,7 @@ fn first_in_window(text: &PyStr, args: &FindArgs) -> Option<usize>
 {
     let (from, to) = window_of(text.len(), args.start, args.end)?;
     let part = between(text, from, to);
-    let place = first_place(part, args.sub.as_str(), text.is_ascii())?;
+    let place = first_place(part, args.sub.as_str(), to - from)?;
     Some(from + place)
 }
 
@@ -50,7 +50,7 @@ fn last_in_window(text: &PyStr, args: &FindArgs) -> Option<usize>
 {
     let (from, to) = window_of(text.len(), args.start, args.end)?;
     let part = between(text, from, to);
-    let place = last_place(part, args.sub.as_str(), text.is_ascii())?;
+    let place = last_place(part, args.sub.as_str(), to - from)?;
     Some(from + place)
 }
 
@@ -65,16 +65,16 @@ fn signed(place: Option<usize>) -> isize
     }
 }
 
-// How many times the needle, which is not empty, stands in the text, from the left and without
+// How many times the needle, which is not empty, occurs in the text, from the left and without
 // overlap.
 fn parts_in(text: &str, needle: &str) -> usize
     requires some { 0 < length (chars needle.now) }
     requires bound { length (chars text.now) < 2 ^ 63 }
-    ensures { (k : ℕ) → length (chars text.now) < k → result ≡ length (cuts k (chars needle.now) (chars text.now) 0 (length (chars text.now))) }
+    ensures { IsOccurrenceCount (chars needle.now) (chars text.now) result }
 {
     let mut rest = text;
     let mut parts = 0;
-    while let Some((_, _, back)) = first_cut(rest, needle) {
+    while let Some((_, _, back)) = around_first(rest, needle) {
         rest = back;
         parts += 1;
     }
@@ -86,7 +86,7 @@ impl PyStr {
     pub fn contains(&self, needle: &PyStr) -> bool
         ensures { result ≡ is_some (first_in needle.now self.now 0 (length self.now)) }
     {
-        first_cut(self.as_str(), needle.as_str()).is_some()
+        self.as_str().find(needle.as_str()).is_some()
     }
 
     /// The first place of `args.sub` in the window, in code points from the text's beginning, or
@@ -105,30 +105,36 @@ impl PyStr {
         signed(last_in_window(self, args))
     }
 
-    /// The first place, as `find` gives it. It takes no memory.
+    /// The first place, as `find` gives it. It takes no memory. (Python Library Reference, String
+    /// Methods, `str.index`.)
     ///
     /// # Errors
     ///
-    /// `SubstringNotFound` exactly where `find` answers -1.
+    /// `SubstringNotFound` where it does not occur.
     pub fn index(&self, args: &FindArgs) -> PyResult<usize>
-        ensures { result ≡ ok_or (find args.now.sub self.now args.now.start args.now.end) PyError.SubstringNotFound }
+        ensures { result
+            ≡ ok_or (find args.now.sub self.now args.now.start args.now.end)
+            PyError.SubstringNotFound }
     {
         first_in_window(self, args).ok_or(PyError::SubstringNotFound)
     }
 
-    /// The last place, as `rfind` gives it. It takes no memory.
+    /// The last place, as `rfind` gives it. It takes no memory. (Python Library Reference, String
+    /// Methods, `str.rindex`.)
     ///
     /// # Errors
     ///
-    /// `SubstringNotFound` exactly where `rfind` answers -1.
+    /// `SubstringNotFound` where it does not occur.
     pub fn rindex(&self, args: &FindArgs) -> PyResult<usize>
-        ensures { result ≡ ok_or (rfind args.now.sub self.now args.now.start args.now.end) PyError.SubstringNotFound }
+        ensures { result
+            ≡ ok_or (rfind args.now.sub self.now args.now.start args.now.end)
+            PyError.SubstringNotFound }
     {
         last_in_window(self, args).ok_or(PyError::SubstringNotFound)
     }
 
-    /// How often `args.sub` stands in the window, found from the left without overlap. An empty
-    /// text stands at each place of the window once. It takes no memory. (Python Library
+    /// How often `args.sub` occurs in the window, found from the left without overlap. An empty
+    /// text occurs at each place of the window once. It takes no memory. (Python Library
     /// Reference, String Methods, `str.count`.)
     pub fn count(&self, args: &FindArgs) -> usize
         ensures { result ≡ count args.now.sub self.now args.now.start args.now.end }

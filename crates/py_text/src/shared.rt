@@ -25,10 +25,6 @@ impl Model for PyStrRef {
 
 impl PyStr {
     /// The text, to be shared.
-    ///
-    /// # Errors
-    ///
-    /// `NoMemory`, and no other.
     pub fn new_ref(alloc: Global, zelf: PyStr) -> PyResult<PyStrRef>
         ensures ok { IfOk result (λ made. made ≡ zelf) }
         ensures err { IsOkUnless result PyError.NoMemory }
@@ -39,19 +35,15 @@ impl PyStr {
 }
 
 impl PyStrRef {
-    /// The text, lent. It takes no memory.
+    /// The text, borrowed. It takes no memory.
     pub fn as_pystr(&self) -> &PyStr
         ensures { result.now ≡ self.now }
     {
         &self.shared
     }
 
-    /// Puts a text behind. Who else shares the text keeps it as it was: it is copied where it is shared,
-    /// and grows in place where it is not.
-    ///
-    /// # Errors
-    ///
-    /// `NoMemory`, and no other. The text is then as before.
+    /// Appends a text. It is copied where it is shared, so that others keep it as it was, and grows in
+    /// place where it is not.
     pub fn concat_in_place(&mut self, alloc: Global, other: &str) -> PyResult<()>
         ensures ok { OnOk result (self.new ≡ self.old ++ chars other.now) }
         ensures same { OnErr result (self.new ≡ self.old) }
@@ -60,8 +52,8 @@ impl PyStrRef {
         if let Some(text) = Rc::get_mut(&mut self.shared) {
             return text.append(other);
         }
-        let joined = self.shared.joined(alloc, other)?;
-        self.shared = Rc::new(alloc, joined)?;
+        let sum = self.shared.add_str(alloc, other)?;
+        self.shared = Rc::new(alloc, sum)?;
         Ok(())
     }
 }

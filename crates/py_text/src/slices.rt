@@ -1,11 +1,11 @@
 //! Items and slices of a text.
 
 ghost use Rattle.std.specs.Prelude.{◌≡◌, ◌≤◌, ◌<◌, length, reverse, slice_get, slice_range, Some, IfOk, IsOkUnless};
-ghost use Rattle.py_text.specs.Slices.{every};
+ghost use Rattle.py_text.specs.Strides.{every};
 
+use crate::points::char_at;
 use crate::strides::{every_byte, every_byte_back, every_char, every_char_back};
 use crate::text::PyStr;
-use crate::walk;
 use py_base::{PyError, PyResult};
 use std::alloc::Global;
 use std::ops::Range;
@@ -19,29 +19,22 @@ impl PyStr {
         if self.is_ascii() {
             char::from(self.as_str().as_bytes()[index])
         } else {
-            walk::char_at(self.as_str(), self.len(), index)
+            char_at(self.as_str(), self.len(), index)
         }
     }
 
-    /// The code points of the range, copied.
-    ///
-    /// # Errors
-    ///
-    /// `NoMemory`, and no other.
+    /// A copy of the code points of the range.
     pub fn do_slice(&self, alloc: Global, range: Range<usize>) -> PyResult<PyStr>
         requires order { range.start ≤ range.end }
         requires inside { range.end ≤ length self.now }
         ensures ok { IfOk result (λ made. made ≡ slice_range self.now range.start range.end) }
         ensures err { IsOkUnless result PyError.NoMemory }
     {
-        PyStr::copy_of(alloc, self.get_chars(range))
+        let count = range.end - range.start;
+        PyStr::copy_counted(alloc, self.get_chars(range), count)
     }
 
     /// The code points of the range, the last one first.
-    ///
-    /// # Errors
-    ///
-    /// `NoMemory`, and no other.
     pub fn do_slice_reverse(&self, alloc: Global, range: Range<usize>) -> PyResult<PyStr>
         requires order { range.start ≤ range.end }
         requires inside { range.end ≤ length self.now }
@@ -51,11 +44,7 @@ impl PyStr {
         self.do_stepped_slice_reverse(alloc, range, 1)
     }
 
-    /// The first code point of the range, and each that stands a multiple of `step` behind it.
-    ///
-    /// # Errors
-    ///
-    /// `NoMemory`, and no other.
+    /// The first code point of the range, and each that is a multiple of `step` after it.
     pub fn do_stepped_slice(
         &self,
         alloc: Global,
@@ -68,21 +57,18 @@ impl PyStr {
         ensures ok { IfOk result (λ made. made ≡ every step (slice_range self.now range.start range.end)) }
         ensures err { IsOkUnless result PyError.NoMemory }
     {
-        let part = self.get_chars(range);
         if step == 1 {
-            PyStr::copy_of(alloc, part)
-        } else if self.is_ascii() {
+            return self.do_slice(alloc, range);
+        }
+        let part = self.get_chars(range);
+        if self.is_ascii() {
             every_byte(alloc, part.as_bytes(), step)
         } else {
             every_char(alloc, part, step)
         }
     }
 
-    /// The last code point of the range, and each that stands a multiple of `step` before it.
-    ///
-    /// # Errors
-    ///
-    /// `NoMemory`, and no other.
+    /// The last code point of the range, and each that is a multiple of `step` before it.
     pub fn do_stepped_slice_reverse(
         &self,
         alloc: Global,
@@ -92,7 +78,8 @@ impl PyStr {
         requires order { range.start ≤ range.end }
         requires inside { range.end ≤ length self.now }
         requires forward { 1 ≤ step }
-        ensures ok { IfOk result (λ made. made ≡ every step (reverse (slice_range self.now range.start range.end))) }
+        ensures ok { IfOk result (λ made.
+            made ≡ every step (reverse (slice_range self.now range.start range.end))) }
         ensures err { IsOkUnless result PyError.NoMemory }
     {
         let part = self.get_chars(range);

@@ -1,18 +1,19 @@
 //! A text under the brackets of Python: `text[index]` and `text[start:stop:step]`.
 
 ghost use Rattle.std.specs.Prelude.{◌≡◌, ◌≢◌, ◌≤◌, ◌⊎◌, ◌-◌, ◌^◌, min, ◌+ℤ◌, neg_ℤ, pos, negsuc, Some, unwrap_or, Err, IfOk, IfErr, IsOkUnless, ok_or};
-ghost use Rattle.py_text.specs.Slices.{item_of, end_of, slice_of};
+ghost use Rattle.py_text.specs.Subscript.{item_of, end_of, slice_of};
 
 use crate::text::PyStr;
 use py_base::{PyError, PyResult};
 use std::alloc::Global;
 
 impl PyStr {
-    /// What `text[index]` is in Python: a negative index counts from the end.
+    /// What `text[index]` is in Python: the index counts code points, a negative one from the end.
+    /// (Python Library Reference, Common Sequence Operations.)
     ///
     /// # Errors
     ///
-    /// `IndexOutOfRange` where no code point stands there.
+    /// `IndexOutOfRange` where there is none.
     pub fn getitem_by_index(&self, index: i128) -> PyResult<char>
         ensures { result ≡ ok_or (item_of self.now index) PyError.IndexOutOfRange }
     {
@@ -30,7 +31,7 @@ impl PyStr {
     ///
     /// # Errors
     ///
-    /// `StepZero` where the step is 0, and `NoMemory`.
+    /// `StepZero` where the step is 0.
     pub fn getitem_by_slice(
         &self,
         alloc: Global,
@@ -40,7 +41,8 @@ impl PyStr {
     ) -> PyResult<PyStr>
         ensures zero { step ≡ Some (pos 0) → result ≡ Err PyError.StepZero }
         ensures ok { IfOk result (λ made. made ≡ slice_of self.now start stop (unwrap_or step (pos 1))) }
-        ensures err { IfErr result (λ e. (e ≡ PyError.NoMemory) ⊎ ((e ≡ PyError.StepZero) × (step ≡ Some (pos 0)))) }
+        ensures err { IfErr result (λ e.
+            (e ≡ PyError.NoMemory) ⊎ ((e ≡ PyError.StepZero) × (step ≡ Some (pos 0)))) }
     {
         match step {
             Some(0) => Err(PyError::StepZero),
@@ -121,7 +123,8 @@ fn forward_end(given: Option<i128>, len: usize, absent: usize) -> usize
 /// One past an end of a slice with a step below 0.
 fn back_end(given: Option<i128>, len: usize, absent: usize) -> usize
     requires { absent ≤ len }
-    ensures place { pos result ≡ end_of len (negsuc 0) (pos len +ℤ negsuc 0) (pos absent +ℤ negsuc 0) given +ℤ pos 1 }
+    ensures place { pos result
+        ≡ end_of len (negsuc 0) (pos len +ℤ negsuc 0) (pos absent +ℤ negsuc 0) given +ℤ pos 1 }
     ensures inside { result ≤ len }
 {
     let Some(place) = given else { return absent };

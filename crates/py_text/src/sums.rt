@@ -1,27 +1,33 @@
-//! Texts joined and repeated, and what is left without a prefix or a suffix.
+//! Texts added and repeated.
 
-ghost use Rattle.std.specs.Prelude.{◌≡◌, [], ◌++◌, chars, IsOk, IfOk, IsOkUnless};
-ghost use Rattle.py_text.specs.Affixes.{without_prefix, without_suffix, times, copies};
+ghost use Rattle.std.specs.Prelude.{◌≡◌, [], ◌++◌, chars, length, IsOk, IfOk, IsOkUnless};
+ghost use Rattle.py_text.specs.Sums.{times, copies};
 
+use crate::points::count_points;
 use crate::text::PyStr;
 use py_base::{PyError, PyResult};
 use std::alloc::Global;
 
 impl PyStr {
-    /// Both texts, one behind the other.
-    ///
-    /// # Errors
-    ///
-    /// `NoMemory`, and no other.
+    /// This text and then the other. (Python Library Reference, Common Sequence Operations.)
     pub fn add(&self, alloc: Global, other: &PyStr) -> PyResult<PyStr>
         ensures ok { IfOk result (λ made. made ≡ self.now ++ other.now) }
         ensures err { IsOkUnless result PyError.NoMemory }
     {
-        self.joined(alloc, other.as_str())
+        self.add_counted(alloc, other.as_str(), other.len())
     }
 
-    /// The text with another behind it.
-    pub(crate) fn joined(&self, alloc: Global, other: &str) -> PyResult<PyStr>
+    /// This text and then another.
+    pub(crate) fn add_str(&self, alloc: Global, other: &str) -> PyResult<PyStr>
+        ensures ok { IfOk result (λ made. made ≡ self.now ++ chars other.now) }
+        ensures err { IsOkUnless result PyError.NoMemory }
+    {
+        self.add_counted(alloc, other, count_points(other))
+    }
+
+    // This text and then another of `count` code points.
+    fn add_counted(&self, alloc: Global, other: &str, count: usize) -> PyResult<PyStr>
+        requires { count ≡ length (chars other.now) }
         ensures ok { IfOk result (λ made. made ≡ self.now ++ chars other.now) }
         ensures err { IsOkUnless result PyError.NoMemory }
     {
@@ -31,15 +37,11 @@ impl PyStr {
         let mut text = String::with_capacity(alloc, bytes)?;
         text.push_str(self.as_str())?;
         text.push_str(other)?;
-        Ok(PyStr::from(text))
+        Ok(PyStr::with_count(text, self.len() + count))
     }
 
-    /// The text, so many times. A negative number gives the empty text. An empty result takes no
-    /// memory.
-    ///
-    /// # Errors
-    ///
-    /// `NoMemory`, and no other.
+    /// The text, so many times; a number below 1 gives the empty text. (Python Library Reference,
+    /// Common Sequence Operations.)
     pub fn mul(&self, alloc: Global, value: isize) -> PyResult<PyStr>
         ensures ok { IfOk result (λ made. made ≡ times value self.now) }
         ensures free { times value self.now ≡ [] → IsOk result }
@@ -51,7 +53,7 @@ impl PyStr {
         self.copied(alloc, value as usize)
     }
 
-    /// The text, so many times.
+    // The text, so many times.
     fn copied(&self, alloc: Global, count: usize) -> PyResult<PyStr>
         ensures ok { IfOk result (λ made. made ≡ copies count self.now) }
         ensures err { IsOkUnless result PyError.NoMemory }
@@ -60,33 +62,11 @@ impl PyStr {
             return Err(PyError::NoMemory);
         };
         let mut text = String::with_capacity(alloc, bytes)?;
+        let mut points = 0;
         for _n in 0..count {
             text.push_str(self.as_str())?;
+            points += self.len();
         }
-        Ok(PyStr::from(text))
-    }
-
-    /// The text without the prefix, or the whole text where it does not begin with it. Nothing is
-    /// copied.
-    pub fn removeprefix(&self, pref: &PyStr) -> &str
-        ensures { chars result.now ≡ without_prefix pref.now self.now }
-    {
-        let text = self.as_str();
-        match text.strip_prefix(pref.as_str()) {
-            Some(rest) => rest,
-            None => text,
-        }
-    }
-
-    /// The text without the suffix, or the whole text where it does not end with it. Nothing is
-    /// copied.
-    pub fn removesuffix(&self, suffix: &PyStr) -> &str
-        ensures { chars result.now ≡ without_suffix suffix.now self.now }
-    {
-        let text = self.as_str();
-        match text.strip_suffix(suffix.as_str()) {
-            Some(rest) => rest,
-            None => text,
-        }
+        Ok(PyStr::with_count(text, points))
     }
 }

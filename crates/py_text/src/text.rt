@@ -1,10 +1,10 @@
 //! A text: its code points, their count, and whether all are ASCII.
 
-ghost use Rattle.std.specs.Prelude.{◌≡◌, ◌≤◌, ◌==◌, [], ◌∷◌, ◌++◌, length, drop, chars, encode_utf8_all, slice_range, IfOk, OnOk, OnErr, IsOkUnless, true};
+ghost use Rattle.std.specs.Prelude.{◌≡◌, ◌≤◌, ◌==◌, [], ◌∷◌, ◌++◌, length, drop, chars, encode_utf8_all, slice_range, string_bytes, IfOk, OnOk, OnErr, IsOkUnless, true};
 ghost use Rattle.std.specs.Str.{IsCharBoundary};
-ghost use Rattle.py_text.specs.Mark.{all_ascii};
+ghost use Rattle.py_text.specs.Text.{all_ascii};
 
-use crate::walk;
+use crate::points::{count_points, offset_in, part_of};
 use py_base::{PyError, PyResult};
 use std::alloc::Global;
 use std::fmt;
@@ -21,7 +21,7 @@ pub struct PyStr {
 
 impl Model for PyStr {
     ghost use Rattle.std.specs.Prelude.{List, ℕ, chars, string_bytes};
-    ghost use Rattle.py_text.specs.Mark.{IsMarked};
+    ghost use Rattle.py_text.specs.Text.{IsMarked};
 
     ghost Value = { List ℕ };
 
@@ -37,38 +37,47 @@ impl From<String> for PyStr {
 
     /// The text, moved. It takes no memory.
     fn from(text: String) -> PyStr {
-        let count = text.as_str().chars().count();
-        let ascii = count == text.as_str().len();
-        PyStr { text, ascii, count }
+        let count = count_points(text.as_str());
+        PyStr::with_count(text, count)
     }
 }
 
 impl PyStr {
     /// A copy of the text.
-    ///
-    /// # Errors
-    ///
-    /// `NoMemory`, and no other.
     pub fn copy_of(alloc: Global, s: &str) -> PyResult<PyStr>
         ensures ok { IfOk result (λ made. made ≡ chars s.now) }
         ensures err { IsOkUnless result PyError.NoMemory }
     {
+        PyStr::copy_counted(alloc, s, count_points(s))
+    }
+
+    /// A copy of a text of `count` code points.
+    pub(crate) fn copy_counted(alloc: Global, s: &str, count: usize) -> PyResult<PyStr>
+        requires { count ≡ length (chars s.now) }
+        ensures ok { IfOk result (λ made. made ≡ chars s.now) }
+        ensures err { IsOkUnless result PyError.NoMemory }
+    {
         let text = String::from_str(alloc, s)?;
-        Ok(PyStr::from(text))
+        Ok(PyStr::with_count(text, count))
+    }
+
+    /// The text of `count` code points, moved.
+    pub(crate) fn with_count(text: String, count: usize) -> PyStr
+        requires { count ≡ length (chars (string_bytes text)) }
+        ensures { result ≡ chars (string_bytes text) }
+    {
+        let ascii = count == text.as_str().len();
+        PyStr { text, ascii, count }
     }
 
     /// The text of one character.
-    ///
-    /// # Errors
-    ///
-    /// `NoMemory`, and no other.
     pub fn from_char(alloc: Global, c: char) -> PyResult<PyStr>
         ensures ok { IfOk result (λ made. made ≡ c ∷ []) }
         ensures err { IsOkUnless result PyError.NoMemory }
     {
         let mut text = String::new(alloc);
         text.push(c)?;
-        Ok(PyStr::from(text))
+        Ok(PyStr::with_count(text, 1))
     }
 
     /// The text of ASCII bytes, moved. It takes no memory.
@@ -77,7 +86,7 @@ impl PyStr {
         ensures { result ≡ bytes.items }
     {
         let count = bytes.len();
-        let text = String::from_utf8(bytes).unwrap();
+        let text = unsafe { String::from_utf8_unchecked(bytes) };
         PyStr {
             text,
             ascii: true,
@@ -85,7 +94,7 @@ impl PyStr {
         }
     }
 
-    /// The text, lent.
+    /// The text, borrowed.
     pub fn as_str(&self) -> &str
         ensures value { chars result.now ≡ self.now }
         ensures bytes { result.now ≡ encode_utf8_all self.now }
@@ -107,7 +116,7 @@ impl PyStr {
         self.count
     }
 
-    /// How many code points there are, as `len` in Python.
+    /// How many code points there are. (Python Library Reference, Built-in Functions, `len`.)
     pub fn len(&self) -> usize
         ensures { result ≡ length self.now }
     {
@@ -128,7 +137,7 @@ impl PyStr {
         self.ascii
     }
 
-    /// The code points of the range, lent. On an ASCII text nothing is walked over.
+    /// The code points of the range, borrowed. On an ASCII text nothing is walked over.
     pub fn get_chars(&self, range: Range<usize>) -> &str
         requires order { range.start ≤ range.end }
         requires inside { range.end ≤ length self.now }
@@ -138,7 +147,7 @@ impl PyStr {
         if self.is_ascii() {
             &text[range.start..range.end]
         } else {
-            walk::part_of(text, self.len(), range.start, range.end)
+            part_of(text, self.len(), range.start, range.end)
         }
     }
 
@@ -151,15 +160,11 @@ impl PyStr {
         if self.is_ascii() {
             n
         } else {
-            walk::offset_in(self.as_str(), self.len(), n)
+            offset_in(self.as_str(), self.len(), n)
         }
     }
 
-    /// The same text, copied.
-    ///
-    /// # Errors
-    ///
-    /// `NoMemory`, and no other.
+    /// A copy of the text.
     pub fn try_clone(&self, alloc: Global) -> PyResult<PyStr>
         ensures ok { IfOk result (λ made. made ≡ self.now) }
         ensures err { IsOkUnless result PyError.NoMemory }
@@ -172,12 +177,27 @@ impl PyStr {
         })
     }
 
-    /// Puts a text behind.
-    ///
-    /// # Errors
-    ///
-    /// `NoMemory`, and no other. The text is then as before.
+    /// Appends a text.
     pub fn append(&mut self, more: &str) -> PyResult<()>
+        ensures ok { OnOk result (self.new ≡ self.old ++ chars more.now) }
+        ensures same { OnErr result (self.new ≡ self.old) }
+        ensures err { IsOkUnless result PyError.NoMemory }
+    {
+        self.append_counted(more, count_points(more))
+    }
+
+    /// Appends a text whose code points are counted.
+    pub(crate) fn append_text(&mut self, more: &PyStr) -> PyResult<()>
+        ensures ok { OnOk result (self.new ≡ self.old ++ more.now) }
+        ensures same { OnErr result (self.new ≡ self.old) }
+        ensures err { IsOkUnless result PyError.NoMemory }
+    {
+        self.append_counted(more.as_str(), more.len())
+    }
+
+    // Appends a text of `count` code points.
+    fn append_counted(&mut self, more: &str, count: usize) -> PyResult<()>
+        requires { count ≡ length (chars more.now) }
         ensures ok { OnOk result (self.new ≡ self.old ++ chars more.now) }
         ensures same { OnErr result (self.new ≡ self.old) }
         ensures err { IsOkUnless result PyError.NoMemory }
@@ -185,7 +205,7 @@ impl PyStr {
         let Ok(()) = self.text.push_str(more) else {
             return Err(PyError::NoMemory);
         };
-        self.count += more.chars().count();
+        self.count += count;
         self.ascii = self.count == self.text.as_str().len();
         Ok(())
     }

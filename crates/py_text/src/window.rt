@@ -5,7 +5,8 @@ ghost use Rattle.py_text.specs.Window.{counted_place, window_start, window_end};
 
 // The place, counted from the end of `len` code points where it is negative; None past `len`.
 fn place_within(len: usize, place: i128) -> Option<usize>
-    ensures { MatchOption result (len < counted_place len place) (λ a. (a ≡ counted_place len place) × (a ≤ len)) }
+    ensures { MatchOption result (len < counted_place len place) (λ a.
+        (a ≡ counted_place len place) × (a ≤ len)) }
 {
     if place < 0 {
         let back = place.unsigned_abs();
@@ -28,7 +29,9 @@ pub(crate) fn window_of(
     start: Option<i128>,
     end: Option<i128>,
 ) -> Option<(usize, usize)>
-    ensures { MatchOption result (window_end len end < window_start len start) (λ w. (w.0 ≡ window_start len start) × (w.1 ≡ window_end len end) × (w.0 ≤ w.1) × (w.1 ≤ len)) }
+    ensures { MatchOption result (window_end len end < window_start len start) (λ w.
+        (w.0 ≡ window_start len start)
+        × (w.1 ≡ window_end len end) × (w.0 ≤ w.1) × (w.1 ≤ len)) }
 {
     let to = match end {
         Some(place) => match place_within(len, place) {

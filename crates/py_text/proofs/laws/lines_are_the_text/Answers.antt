@@ -1,4 +1,4 @@
-use Rattle.py_text.proofs.JoinLaws.{lines_are}
+use Rattle.py_text.proofs.LawLemmas.{lines_are}
 use Rattle.py_text.proofs.laws.lines_are_the_text.Goals as goal
 
 pub returns : goal.returns

@@ -1,4 +1,4 @@
-use Rattle.py_text.proofs.JoinLaws.{parts_are}
+use Rattle.py_text.proofs.LawLemmas.{parts_are}
 use Rattle.py_text.proofs.laws.parts_are_the_text.Goals as goal
 
 pub returns : goal.returns

@@ -1,4 +1,4 @@
-use Rattle.py_text.proofs.PlaceLaws.{no_more_places}
+use Rattle.py_text.proofs.PlaceLemmas.{no_more_places}
 use Rattle.py_text.proofs.laws.slices_take_no_more_places.Goals as goal
 
 pub returns : goal.returns

@@ -1,5 +1,5 @@
-use Rattle.py_text.proofs.TextLaws.{first_difference}
+use Rattle.py_text.proofs.TextLemmas.{ordered_by_difference}
 use Rattle.py_text.proofs.laws.texts_ordered_by_first_difference.Goals as goal
 
 pub returns : goal.returns
-returns c = first_difference
+returns c = ordered_by_difference

@@ -5,11 +5,11 @@ use Rattle.std.proofs.lemmas.Bool.Decides.{nat_tests}
 use Rattle.std.proofs.lemmas.Str.{chars-nil, IsUtf8-from_ascii}
 use Rattle.std.proofs.lemmas.List.{nil_from_length}
 use Rattle.py_text.specs.Lines.{end_width}
-use Rattle.py_text.specs.Search.{stands_in}
-use Rattle.py_text.proofs.Points.{is_ascii}
-use Rattle.py_text.proofs.Ends.{prefix_is}
-use Rattle.py_text.proofs.Fronts.{some_chars}
-use Rattle.py_text.proofs.LineLaws.{width_by}
+use Rattle.py_text.specs.Occurrences.{occurs_at}
+use Rattle.py_text.proofs.PointLemmas.{is_ascii}
+use Rattle.py_text.proofs.EndLemmas.{prefix_is}
+use Rattle.py_text.proofs.UntilLemmas.{some_chars}
+use Rattle.py_text.proofs.LineLemmas.{width_by}
 use Rattle.py_text.proofs.lines.end_width_of.Goals as goal
 
 crlf_chars : chars (13 ∷ 10 ∷ []) ≡ 13 ∷ 10 ∷ []
@@ -26,7 +26,7 @@ is_text = IsUtf8-from_ascii (13 ∷ 10 ∷ []) (is_ascii (13 ∷ 10 ∷ []) refl
 
 width : (s : List ℕ) (r t : Bool) → r ≡ t → IsUtf8 s → 0 < length s → MatchBool r (HasPrefixMatch (FindsTextPrefix (13 ∷ 10 ∷ [])) s) (FindsTextPrefix (13 ∷ 10 ∷ []) s None) → (if t then 2 else 1) ≡ end_width (chars s)
 width s r t e u h m =
-    ap (λ b. if b then 2 else 1) (sym e) ∙ width_by (chars s) r (some_chars s u h) (prefix_is r (13 ∷ 10 ∷ []) s is_text u m ∙ ap (λ n. stands_in n (chars s) 0 (length (chars s)) 0) crlf_chars)
+    ap (λ b. if b then 2 else 1) (sym e) ∙ width_by (chars s) r (some_chars s u h) (prefix_is r (13 ∷ 10 ∷ []) s is_text u m ∙ ap (λ n. occurs_at n (chars s) 0 (length (chars s)) 0) crlf_chars)
 
 pub returns-then-starts_with : goal.returns-then-starts_with
 returns-then-starts_with c =

@@ -3,7 +3,7 @@ use Rattle.std.proofs.lemmas.Str.{chars-nil}
 use Rattle.std.proofs.lemmas.List.{drop_all}
 use Rattle.std.proofs.lemmas.List.Sorted.{answers_always}
 use Rattle.py_base.specs.Chars.Classes.{is_line_end}
-use Rattle.py_text.proofs.Fronts.{found_front, none_front}
+use Rattle.py_text.proofs.UntilLemmas.{found_front, none_front}
 use Rattle.py_text.proofs.lines.line_len.Goals as goal
 
 pub returns-in-Some-clause-line : goal.returns-in-Some-clause-line

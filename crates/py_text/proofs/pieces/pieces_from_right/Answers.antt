@@ -1,7 +1,7 @@
 use Rattle.std.proofs.Common.{◌<◌, ◌-◌, ◌∷◌, ◌++◌, [], length, map, reverse, ◌∙◌, ap, arith, chars}
 use Rattle.std.proofs.lemmas.List.{length-reverse, map_push}
-use Rattle.py_text.proofs.PieceLaws.{cutting_none, cutting_more, cutting_stops, cutting_ends, ok_turned}
-use Rattle.py_text.proofs.Mirrors.{mirror_none, mirror_cut}
+use Rattle.py_text.proofs.PieceLemmas.{cutting_none, cutting_more, cutting_stops, cutting_ends, ok_turned}
+use Rattle.py_text.proofs.MirrorLemmas.{mirror_none, mirror_cut}
 use Rattle.py_text.proofs.pieces.pieces_from_right.Goals as goal
 
 pub loop-left-init : goal.loop-left-init
@@ -13,14 +13,14 @@ loop-left-preserved c =
     record {
       utf8 = c.in-Some.ensures.text.0;
       cutting = cutting_more _ _ _ (reverse (chars c.in-Some.back.now)) _ (map reverse c.loop-left.list) _ _ c.loop-left.left (c.loop-left.left - 1) some (omega arith)
-          (ap (map reverse) (c.in_ok-push-in-Some.ensures.ok ∙ ap (λ t. c.loop-left.list ++ t ∷ []) c.in_ok-copy_of-in-Some.ensures.ok) ∙ map_push reverse c.loop-left.list (chars c.in-Some.back.now))
-          (mirror_cut _ _ _ _ c.in-Some.ensures.cuts) c.loop-left.invariant.cutting;
+          (ap (map reverse) c.in_ok-push_copy-in-Some.ensures.ok ∙ map_push reverse c.loop-left.list (chars c.in-Some.back.now))
+          (mirror_cut _ _ _ _ c.in-Some.ensures.around) c.loop-left.invariant.cutting;
     }
 
 pub returns-in-None-clause-ok : goal.returns-in-None-clause-ok
 returns-in-None-clause-ok c =
     ok_turned c.finished.result (c.loop-left.list ++ chars c.loop-left.rest.now ∷ []) _ c.finished.ensures.ok
-    (map_push reverse c.loop-left.list (chars c.loop-left.rest.now) ∙ cutting_stops _ _ _ _ _ _ (mirror_none (chars c.args.sep.now) (chars c.loop-left.rest.now) c.in-None.ensures.cuts) c.loop-left.invariant.cutting)
+    (map_push reverse c.loop-left.list (chars c.loop-left.rest.now) ∙ cutting_stops _ _ _ _ _ _ (mirror_none (chars c.args.sep.now) (chars c.loop-left.rest.now) c.in-None.ensures.around) c.loop-left.invariant.cutting)
 
 pub returns-clause-ok : goal.returns-clause-ok
 returns-clause-ok c =

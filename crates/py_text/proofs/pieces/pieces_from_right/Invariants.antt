@@ -1,8 +1,8 @@
 use Rattle.std.proofs.Common.{chars, map, reverse}
 use denote.Shadow.{shadow}
 use denote.Text.{Utf8}
-use Rattle.py_text.specs.Cuts.{split}
-use Rattle.py_text.proofs.PieceLaws.{Cutting}
+use Rattle.py_text.specs.Pieces.{split}
+use Rattle.py_text.proofs.PieceLemmas.{Cutting}
 use Rattle.py_text.proofs.pieces.pieces_from_right.Given as goal
 
 abbrev pub invariant-loop-left : goal.invariant-loop-left

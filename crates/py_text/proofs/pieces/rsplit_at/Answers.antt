@@ -1,4 +1,4 @@
-use Rattle.py_text.proofs.PieceLaws.{mirror_of}
+use Rattle.py_text.proofs.PieceLemmas.{mirror_of}
 use Rattle.py_text.proofs.pieces.rsplit_at.Goals as goal
 
 pub returns-clause-ok : goal.returns-clause-ok

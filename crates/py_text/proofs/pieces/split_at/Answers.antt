@@ -1,5 +1,5 @@
 use Rattle.std.proofs.Common.{◌≡◌, ◌-◌, ◌∷◌, ◌++◌, [], List, ℕ, ◌∙◌, ap, subst, arith, chars, IfOk}
-use Rattle.py_text.proofs.PieceLaws.{cutting_none, cutting_more, cutting_stops, cutting_ends}
+use Rattle.py_text.proofs.PieceLemmas.{cutting_none, cutting_more, cutting_stops, cutting_ends}
 use Rattle.py_text.proofs.pieces.split_at.Goals as goal
 
 pub loop-left-init : goal.loop-left-init
@@ -9,13 +9,13 @@ pub loop-left-preserved : goal.loop-left-preserved
 loop-left-preserved c = record {
   utf8 = c.in-Some.ensures.text.2;
   cutting = cutting_more _ _ _ (chars c.in-Some.front.now) _ c.loop-left.list _ _ c.loop-left.left (c.loop-left.left - 1) c.requires (omega arith)
-      (c.in_ok-push-in-Some.ensures.ok ∙ ap (λ t. c.loop-left.list ++ t ∷ []) c.in_ok-copy_of-in-Some.ensures.ok) c.in-Some.ensures.cuts c.loop-left.invariant.cutting;
+      c.in_ok-push_copy-in-Some.ensures.ok c.in-Some.ensures.around c.loop-left.invariant.cutting;
 }
 
 pub returns-in-None-clause-ok : goal.returns-in-None-clause-ok
 returns-in-None-clause-ok c =
     let P : List (List ℕ) → Type 0 = λ l. IfOk c.finished.result (λ pieces. pieces ≡ l) in
-    subst P (cutting_stops _ _ _ _ _ _ c.in-None.ensures.cuts c.loop-left.invariant.cutting) c.finished.ensures.ok
+    subst P (cutting_stops _ _ _ _ _ _ c.in-None.ensures.around c.loop-left.invariant.cutting) c.finished.ensures.ok
 
 pub returns-clause-ok : goal.returns-clause-ok
 returns-clause-ok c =

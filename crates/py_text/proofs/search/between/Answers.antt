@@ -1,5 +1,5 @@
 use Rattle.std.proofs.Common.{rules, ◌<◌, ◌^◌, ap, length, arith}
-use Rattle.py_text.proofs.Points.{points_at_most}
+use Rattle.py_text.proofs.PointLemmas.{points_at_most}
 use Rattle.py_text.proofs.search.between.Goals as goal
 
 pub returns-then-to-from-clause-bound : goal.returns-then-to-from-clause-bound

@@ -1,6 +1,6 @@
 use Rattle.std.proofs.Common.{◌<◌, ◌+◌, ◌∙◌, ap, sym, chars, length, arith, option_map}
 use Rattle.py_text.specs.Window.{window_start, window_end}
-use Rattle.py_text.proofs.Windows.{first_outside, ascii_part, is_window, window_first, window_place, first_means}
+use Rattle.py_text.proofs.WindowLemmas.{first_outside, is_window, window_length, window_first, window_place, first_means}
 use Rattle.py_text.proofs.search.first_in_window.Goals as goal
 
 pub returns-in_err-from-clause-place : goal.returns-in_err-from-clause-place
@@ -9,7 +9,8 @@ returns-in_err-from-clause-place c =
     c.from_residual.ensures ∙ sym (first_outside c.args.args.now.sub c.args.text.now _ _ closed)
 
 pub first_place-requires : goal.first_place-requires
-first_place-requires c = λ h. rw c.between-part.ensures.part (ascii_part c.args.text.now c.in_ok-from.from c.in_ok-from.to (sym c.is_ascii.ensures ∙ h))
+first_place-requires c = window_length c.args.text.now (chars c.between-part.result.now) c.args.args.now.start c.args.args.now.end c.in_ok-from.from c.in_ok-from.to
+    (is_window c.args.text.now (chars c.between-part.result.now) c.args.args.now.start c.args.args.now.end c.len.result c.in_ok-from.from c.in_ok-from.to c.len.ensures c.in_ok-from.ensures c.between-part.ensures.part)
 
 pub returns-in_err-place-clause-place : goal.returns-in_err-place-clause-place
 returns-in_err-place-clause-place c =

@@ -1,6 +1,6 @@
 use Rattle.std.proofs.Common.{◌<◌, ◌+◌, ◌∙◌, ap, sym, chars, length, arith, option_map}
 use Rattle.py_text.specs.Window.{window_start, window_end}
-use Rattle.py_text.proofs.Windows.{last_outside, ascii_part, is_window, window_last, window_place, last_means}
+use Rattle.py_text.proofs.WindowLemmas.{last_outside, is_window, window_length, window_last, window_place, last_means}
 use Rattle.py_text.proofs.search.last_in_window.Goals as goal
 
 pub returns-in_err-from-clause-place : goal.returns-in_err-from-clause-place
@@ -9,7 +9,8 @@ returns-in_err-from-clause-place c =
     c.from_residual.ensures ∙ sym (last_outside c.args.args.now.sub c.args.text.now _ _ closed)
 
 pub last_place-requires : goal.last_place-requires
-last_place-requires c = λ h. rw c.between-part.ensures.part (ascii_part c.args.text.now c.in_ok-from.from c.in_ok-from.to (sym c.is_ascii.ensures ∙ h))
+last_place-requires c = window_length c.args.text.now (chars c.between-part.result.now) c.args.args.now.start c.args.args.now.end c.in_ok-from.from c.in_ok-from.to
+    (is_window c.args.text.now (chars c.between-part.result.now) c.args.args.now.start c.args.args.now.end c.len.result c.in_ok-from.from c.in_ok-from.to c.len.ensures c.in_ok-from.ensures c.between-part.ensures.part)
 
 pub returns-in_err-place-clause-place : goal.returns-in_err-place-clause-place
 returns-in_err-place-clause-place c =

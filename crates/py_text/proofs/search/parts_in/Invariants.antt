@@ -1,7 +1,7 @@
 use Rattle.std.proofs.Common.{ℕ, ◌<◌, length, chars}
 use denote.Text.{Utf8}
 use denote.Shadow.{shadow}
-use Rattle.py_text.proofs.CutLaws.{Counted}
+use Rattle.py_text.proofs.OccurrenceLemmas.{Counted}
 use Rattle.py_text.proofs.search.parts_in.Given as goal
 
 abbrev pub invariant-loop-back : goal.invariant-loop-back

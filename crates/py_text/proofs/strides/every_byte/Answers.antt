@@ -1,7 +1,7 @@
 use Rattle.std.proofs.Common.{◌∙◌, ap, sym}
-use Rattle.py_text.specs.Mark.{all_ascii}
-use Rattle.py_text.proofs.StrideLaws.{byte_taken}
-use Rattle.py_text.proofs.Asciis.{ascii_drop, ascii_pushed}
+use Rattle.py_text.specs.Text.{all_ascii}
+use Rattle.py_text.proofs.StrideLemmas.{byte_taken}
+use Rattle.py_text.proofs.AsciiLemmas.{ascii_drop, ascii_pushed}
 use Rattle.py_text.proofs.strides.every_byte.Goals as goal
 
 pub loop-byte-preserved : goal.loop-byte-preserved

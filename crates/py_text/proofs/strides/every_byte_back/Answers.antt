@@ -1,7 +1,7 @@
 use Rattle.std.proofs.Common.{◌∙◌, ◌-◌, ap, sym, length}
-use Rattle.py_text.specs.Mark.{all_ascii}
-use Rattle.py_text.proofs.StrideLaws.{byte_back}
-use Rattle.py_text.proofs.Asciis.{ascii_take, ascii_pushed}
+use Rattle.py_text.specs.Text.{all_ascii}
+use Rattle.py_text.proofs.StrideLemmas.{byte_back}
+use Rattle.py_text.proofs.AsciiLemmas.{ascii_take, ascii_pushed}
 use Rattle.py_text.proofs.strides.every_byte_back.Goals as goal
 
 pub loop-byte-preserved : goal.loop-byte-preserved

@@ -1,6 +1,6 @@
 use Rattle.std.proofs.Common.{◌≡◌, ◌++◌, length, reverse, true}
-use Rattle.py_text.specs.Mark.{all_ascii}
-use Rattle.py_text.specs.Slices.{every}
+use Rattle.py_text.specs.Text.{all_ascii}
+use Rattle.py_text.specs.Strides.{every}
 use Rattle.py_text.proofs.strides.every_byte_back.Given as goal
 
 abbrev pub invariant-loop-byte : goal.invariant-loop-byte

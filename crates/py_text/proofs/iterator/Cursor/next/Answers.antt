@@ -1,7 +1,7 @@
 use Rattle.std.proofs.Common.{◌∙◌, ◌<◌, ◌^◌, length, arith, rules, ap, sym, encode_utf8_all}
 use Rattle.std.specs.Str.Iter.{chars_rest}
-use Rattle.py_text.proofs.Points.{bytes_at_least}
-use Rattle.py_text.proofs.Cursors.{cursor_on, item_at_cursor, inside_cursor}
+use Rattle.py_text.proofs.PointLemmas.{bytes_at_least}
+use Rattle.py_text.proofs.CursorLemmas.{cursor_on, item_at_cursor, inside_cursor}
 use Rattle.py_text.proofs.iterator.Cursor.next.Goals as goal
 
 pub overflow_add-self-2 : goal.overflow_add-self-2

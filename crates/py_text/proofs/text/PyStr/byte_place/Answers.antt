@@ -1,5 +1,5 @@
 use Rattle.std.proofs.Common.{sym, refl, encode_utf8_all}
-use Rattle.py_text.proofs.Cursors.{ascii_boundary, ascii_behind}
+use Rattle.py_text.proofs.CursorLemmas.{ascii_boundary, ascii_behind}
 use Rattle.py_text.proofs.text.PyStr.byte_place.Goals as goal
 
 pub returns-then-is_ascii-clause-place : goal.returns-then-is_ascii-clause-place

@@ -1,8 +1,8 @@
 use Rattle.std.proofs.Common.{◌<◌, chars, length, sym, ◌∙◌, eqb-true}
 use Rattle.std.proofs.lemmas.List.{nil_from_length}
 use Rattle.py_text.specs.Window.{window_start, window_end}
-use Rattle.py_text.proofs.Windows.{is_window}
-use Rattle.py_text.proofs.CutLaws.{window_count, window_count_empty, window_count_none}
+use Rattle.py_text.proofs.WindowLemmas.{is_window}
+use Rattle.py_text.proofs.OccurrenceLemmas.{window_count, window_count_empty, window_count_none}
 use Rattle.py_text.proofs.text.PyStr.count.Goals as goal
 
 pub returns-then-is_empty : goal.returns-then-is_empty

@@ -1,6 +1,6 @@
 use Rattle.std.proofs.Common.{◌∙◌, ap, get_or, length, sym, arith}
 use Rattle.std.specs.Prelude.{Some}
-use Rattle.py_text.proofs.Asciis.{ascii_bytes, item_there}
+use Rattle.py_text.proofs.AsciiLemmas.{ascii_bytes, item_there}
 use Rattle.py_text.proofs.text.PyStr.do_get.Goals as goal
 
 pub bounds-as_bytes-index : goal.bounds-as_bytes-index

@@ -1,5 +1,5 @@
 use Rattle.std.proofs.Common.{reverse, slice_range}
-use Rattle.py_text.proofs.StrideLaws.{every_one}
+use Rattle.py_text.proofs.StrideLemmas.{every_one}
 use Rattle.py_text.proofs.text.PyStr.do_slice_reverse.Goals as goal
 
 pub returns-clause-ok : goal.returns-clause-ok

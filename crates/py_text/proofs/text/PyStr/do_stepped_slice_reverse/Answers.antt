@@ -1,5 +1,5 @@
 use Rattle.std.proofs.Common.{sym}
-use Rattle.py_text.proofs.Asciis.{ascii_part, ascii_range}
+use Rattle.py_text.proofs.AsciiLemmas.{ascii_part, ascii_range}
 use Rattle.py_text.proofs.text.PyStr.do_stepped_slice_reverse.Goals as goal
 
 pub every_byte_back-requires-clause-ascii : goal.every_byte_back-requires-clause-ascii

@@ -1,6 +1,6 @@
 use Rattle.std.proofs.Common.{chars}
-use Rattle.py_text.proofs.Windows.{is_window}
-use Rattle.py_text.proofs.Ends.{suffix_is, window_ends}
+use Rattle.py_text.proofs.WindowLemmas.{is_window}
+use Rattle.py_text.proofs.EndLemmas.{suffix_is, window_ends}
 use Rattle.py_text.proofs.text.PyStr.endswith.Goals as goal
 
 pub returns-in-Some : goal.returns-in-Some

@@ -1,5 +1,5 @@
 use Rattle.std.proofs.Common.{◌∙◌, ap, sym, arith, chars}
-use Rattle.py_text.proofs.Cursors.{ascii_boundary, ascii_piece}
+use Rattle.py_text.proofs.CursorLemmas.{ascii_boundary, ascii_piece}
 use Rattle.py_text.proofs.text.PyStr.get_chars.Goals as goal
 
 pub range-requires-clause-start_boundary : goal.range-requires-clause-start_boundary

@@ -1,6 +1,6 @@
-use Rattle.std.proofs.Common.{◌∙◌, ap, chars}
+use Rattle.std.proofs.Common.{rules, ◌≡◌, ◌∙◌, [], ap, chars, string_bytes}
 use Rattle.std.proofs.lemmas.Str.{chars-nil}
 use Rattle.py_text.proofs.text.PyStr.join.Goals as goal
 
 pub loop-i-init : goal.loop-i-init
-loop-i-init c = c.from-out.ensures ∙ ap chars c.new.ensures.bytes ∙ chars-nil
+loop-i-init c = let e : string_bytes c.in_ok-text.text ≡ [] = search rules in c.from-out.ensures ∙ ap chars e ∙ chars-nil

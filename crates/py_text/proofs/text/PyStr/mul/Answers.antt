@@ -2,7 +2,7 @@ use Rattle.std.proofs.Common.{◌∙◌, ap, chars}
 use Rattle.std.specs.Int.{w64}
 use Rattle.std.proofs.lemmas.Int.{to_z-of_z}
 use Rattle.std.proofs.lemmas.Str.{chars-nil}
-use Rattle.py_text.proofs.Repeats.{times_none, times_empty, times_some}
+use Rattle.py_text.proofs.SumLemmas.{times_none, times_empty, times_some}
 use Rattle.py_text.proofs.text.PyStr.mul.Goals as goal
 use Rattle.py_text.proofs.text.PyStr.mul.Goals.{then-value-le0-via-then-value-le0, then-value-le0-via-else-value-le0+then-is_empty}
 

@@ -1,6 +1,6 @@
 use Rattle.std.proofs.Common.{◌≡◌, take}
 use Rattle.std.specs.Prelude.{bit_xor, fold}
-use Rattle.py_text.specs.TextHash.{mixed}
+use Rattle.py_text.specs.Hash.{mixed}
 use Rattle.py_text.proofs.text.PyStr.py_hash.Given as goal
 
 abbrev pub invariant-loop-byte : goal.invariant-loop-byte

@@ -1,4 +1,4 @@
-use Rattle.py_text.proofs.AffixLaws.{stripped_prefix, no_prefix}
+use Rattle.py_text.proofs.AffixLemmas.{stripped_prefix, no_prefix}
 use Rattle.py_text.proofs.text.PyStr.removeprefix.Goals as goal
 
 pub returns-in-Some : goal.returns-in-Some

@@ -1,4 +1,4 @@
-use Rattle.py_text.proofs.AffixLaws.{stripped_suffix, no_suffix}
+use Rattle.py_text.proofs.AffixLemmas.{stripped_suffix, no_suffix}
 use Rattle.py_text.proofs.text.PyStr.removesuffix.Goals as goal
 
 pub returns-in-Some : goal.returns-in-Some

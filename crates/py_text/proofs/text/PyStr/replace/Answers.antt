@@ -1,7 +1,7 @@
-use Rattle.std.proofs.Common.{rules, ◌<◌, ◌^◌, ◌≡◌, ◌++◌, ◌∙◌, [], List, ℕ, ap, chars, length, arith}
+use Rattle.std.proofs.Common.{rules, ◌<◌, ◌^◌, ◌≡◌, ◌++◌, ◌∙◌, [], List, ℕ, ap, chars, length, arith, string_bytes}
 use Rattle.std.proofs.lemmas.Str.{chars-nil}
-use Rattle.py_text.specs.Cuts.{replace, limit_or_all}
-use Rattle.py_text.proofs.Points.{points_at_most}
+use Rattle.py_text.specs.Replacing.{replace, limit_or_all}
+use Rattle.py_text.proofs.PointLemmas.{points_at_most}
 use Rattle.py_text.proofs.text.PyStr.replace.Goals as goal
 
 pub limit_or_all_of-limit-requires : goal.limit_or_all_of-limit-requires
@@ -14,5 +14,6 @@ replaced k m x y L M out new e f g h = h ∙ ap (λ o. o ++ replace k x y M) g �
 
 pub returns-clause-ok : goal.returns-clause-ok
 returns-clause-ok c =
+    let empty : string_bytes c.in_ok-room.room ≡ [] = search rules in
     replaced c.limit_or_all_of-limit.result (limit_or_all (length c.args.self.now) c.args.count) c.args.old.now c.args.new.now c.args.self.now (chars c.as_str-text.result.now) c.from-out.result _
-    (c.limit_or_all_of-limit.ensures ∙ ap (λ n. limit_or_all n c.args.count) c.len.ensures) c.as_str-text.ensures.value (c.from-out.ensures ∙ ap chars c.new.ensures.bytes ∙ chars-nil) c.in_ok-put.ensures.ok
+    (c.limit_or_all_of-limit.ensures ∙ ap (λ n. limit_or_all n c.args.count) c.len.ensures) c.as_str-text.ensures.value (c.from-out.ensures ∙ ap chars empty ∙ chars-nil) c.in_ok-put.ensures.ok

@@ -1,5 +1,5 @@
 use Rattle.std.proofs.Common.{rules, ◌<◌, ◌^◌, ap, length, arith}
-use Rattle.py_text.proofs.Points.{points_at_most}
+use Rattle.py_text.proofs.PointLemmas.{points_at_most}
 use Rattle.py_text.proofs.text.PyStr.rsplit.Goals as goal
 
 pub limit_of-limit-requires : goal.limit_of-limit-requires

@@ -1,5 +1,5 @@
 use Rattle.std.proofs.Common.{◌≡◌, ◌∙◌, refl, ap, sym, Bool, true, false, if◌then◌else◌, List, ℕ, ◌∷◌, ◌++◌, [], chars, Bor}
-use Rattle.py_text.proofs.LineLaws.{lines_done, lines_more}
+use Rattle.py_text.proofs.LineLemmas.{lines_done, lines_more}
 use Rattle.py_text.proofs.text.PyStr.splitlines.Goals as goal
 use Rattle.py_text.proofs.text.PyStr.splitlines.Goals.{then-keepends, else-keepends}
 
@@ -15,8 +15,8 @@ loop-whole-preserved c =
     ] in
     record {
       utf8 = c.in-Some.ensures.text;
-      lines = lines_more c.args.keepends (chars c.loop-whole.rest.now) (chars c.in-Some.whole.now) (chars c.in-Some.line.now) (chars c.in-Some.behind.now) (chars c.if-keepends.kept.now) c.loop-whole.list _ _
-          c.in-Some.ensures.lines c.in-Some.ensures.body kept (c.in_ok-push.ensures.ok ∙ ap (λ t. c.loop-whole.list ++ t ∷ []) c.in_ok-copy_of.ensures.ok) c.loop-whole.invariant.lines;
+      lines = lines_more c.args.keepends (chars c.loop-whole.rest.now) (chars c.in-Some.whole.now) (chars c.in-Some.line.now) (chars c.in-Some.after.now) (chars c.if-keepends.kept.now) c.loop-whole.list _ _
+          c.in-Some.ensures.lines c.in-Some.ensures.body kept c.in_ok-push_copy.ensures.ok c.loop-whole.invariant.lines;
     }
 
 pub returns-clause-ok : goal.returns-clause-ok

@@ -1,6 +1,6 @@
 use Rattle.std.proofs.Common.{chars}
-use Rattle.py_text.proofs.Windows.{is_window}
-use Rattle.py_text.proofs.Ends.{prefix_is, window_begins}
+use Rattle.py_text.proofs.WindowLemmas.{is_window}
+use Rattle.py_text.proofs.EndLemmas.{prefix_is, window_begins}
 use Rattle.py_text.proofs.text.PyStr.startswith.Goals as goal
 
 pub returns-in-Some : goal.returns-in-Some

@@ -1,5 +1,5 @@
 use Rattle.std.proofs.Common.{rules, ◌^◌, ◌-◌, arith}
-use Rattle.py_text.proofs.SliceLaws.{slice_up}
+use Rattle.py_text.proofs.SliceLemmas.{slice_up}
 use Rattle.py_text.proofs.text.PyStr.taken_forward.Goals as goal
 
 pub returns-clause-ok : goal.returns-clause-ok

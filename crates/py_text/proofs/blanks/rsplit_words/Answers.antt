@@ -1,5 +1,0 @@
-use Rattle.py_text.proofs.PieceLaws.{mirror_of}
-use Rattle.py_text.proofs.blanks.rsplit_words.Goals as goal
-
-pub returns-clause-ok : goal.returns-clause-ok
-returns-clause-ok c = mirror_of _ _ _ c.in_ok-list.ensures.ok c.reverse.ensures

@@ -1,0 +1,5 @@
+use Rattle.py_text.proofs.TextLemmas.{prefixes_first}
+use Rattle.py_text.proofs.laws.byte_prefixes_come_first.Goals as goal
+
+pub returns : goal.returns
+returns c = prefixes_first

@@ -1,5 +1,0 @@
-use Rattle.py_text.proofs.JoinLaws.{cuts_are_few}
-use Rattle.py_text.proofs.laws.no_more_cuts.Goals as goal
-
-pub returns : goal.returns
-returns c = cuts_are_few

@@ -1,5 +1,0 @@
-use Rattle.py_text.proofs.JoinLaws.{words_are_few}
-use Rattle.py_text.proofs.laws.no_more_words.Goals as goal
-
-pub returns : goal.returns
-returns c = words_are_few
