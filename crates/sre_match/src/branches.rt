@@ -1,6 +1,9 @@
 //! One turn of the matcher at the alternatives of a branch.
 
-ghost use Rattle.std.specs.Prelude.{◌≡◌, ◌≢◌, ◌+◌, ◌≤◌, ◌<◌, ◌^◌, ℕ, List, [], ◌∷◌, ◌++◌, OnOk, true, false, slice_get, length};
+ghost use Rattle.sre_match.specs.Captures.{closings};
+ghost use Rattle.sre_match.specs.Cursor.{Cursor};
+ghost use Rattle.sre_match.specs.Fits.{Fit, Placed, Stays};
+ghost use Rattle.std.specs.Prelude.{◌≡◌, ◌≢◌, ◌+◌, ◌≤◌, ◌<◌, ℕ, Bool, List, [], ◌∷◌, ◌++◌, OnOk, true, false, slice_get, length};
 ghost use Rattle.sre_match.specs.Machine.{run, part_next, to_try, Sound, Gives, Stands};
 ghost use Rattle.sre_match.specs.Attempts.{Attempt, after, Marks};
 ghost use Rattle.sre_match.specs.Paths.{all_paths};
@@ -78,23 +81,25 @@ fn later<'t>(more: &'t [Tree]) -> Part<'t>
 fn keep_later<'t>(more: &'t [Tree], at: &At<'t>, trail: &mut Trail<'t>) -> Result<(), AllocError>
     requires sound { Sound trail.old }
     requires deep { at.now.rest ≤ length trail.old.frames.items }
-    ensures marks { OnOk result (trail.new.marks.items ≡ trail.old.marks.items) }
+    ensures marks { OnOk result ((closings trail.new.marks.items) ≡ (closings trail.old.marks.items)) }
     ensures frames { OnOk result (trail.new.frames.items ≡ trail.old.frames.items) }
-    ensures tried { OnOk result ((s : List ℕ) (xs : List Attempt) → to_try s trail.new xs ≡ to_try s trail.old (xs ++ after (spec.each_paths more.entry.now s at.now.place trail.old.marks.items) (run trail.old.frames.items at.now.rest s))) }
+    ensures tried { OnOk result ((s : List ℕ) (xs : List Attempt) → to_try s trail.new xs ≡ to_try s trail.old (xs ++ after (spec.each_paths more.entry.now s at.now.cursor.place (closings trail.old.marks.items)) (run trail.old.frames.items at.now.rest s))) }
     ensures sound { OnOk result (Sound trail.new) }
+    ensures fit { OnOk result ((ok : Cursor → Bool) → Placed ok at.now trail.old → Fit ok trail.new) }
 {
     if more.is_empty() {
         return Ok(());
     }
-    keep(trail, Kind::Try, later(more), at.rest, at.place)
+    keep(trail, Kind::Try, later(more), at.rest, at.cursor)
 }
 
 // An alternative is next, with more of them for later.
 fn chosen_turn<'t>(t: &'t Tree, more: &'t [Tree], at: &mut At<'t>, trail: &mut Trail<'t>) -> Turn
     requires sound { Sound trail.old }
     requires deep { at.old.rest ≤ length trail.old.frames.items }
-    ensures gives { (s : List ℕ) (n : ℕ) → Gives result at.new s trail.new n n (to_try s trail.old (after (spec.each_paths (t.now ∷ more.entry.now) s at.old.place trail.old.marks.items) (run trail.old.frames.items at.old.rest s))) }
+    ensures gives { (s : List ℕ) (n : ℕ) → Gives result at.new s trail.new n n (to_try s trail.old (after (spec.each_paths (t.now ∷ more.entry.now) s at.old.cursor.place (closings trail.old.marks.items)) (run trail.old.frames.items at.old.rest s))) }
     ensures stands { Stands result at.new trail.new }
+    ensures placed { (ok : Cursor → Bool) → Placed ok at.old trail.old → Stays result ok at.new trail.new }
 {
     let Ok(()) = keep_later(more, at, trail) else {
         return Turn::Full;
@@ -104,19 +109,27 @@ fn chosen_turn<'t>(t: &'t Tree, more: &'t [Tree], at: &mut At<'t>, trail: &mut T
 }
 
 // An alternative that begins with a unit that is met is next, behind that unit.
-fn met_turn<'t>(t: &'t Tree, more: &'t [Tree], at: &mut At<'t>, trail: &mut Trail<'t>) -> Turn
-    requires within { at.old.place < 2 ^ 63 }
+fn met_turn<'t, S: StrDrive>(
+    t: &'t Tree,
+    more: &'t [Tree],
+    s: &Cut<'_, S>,
+    at: &mut At<'t>,
+    trail: &mut Trail<'t>,
+) -> Turn
+    requires within { at.old.cursor.place < length s.now }
     requires sound { Sound trail.old }
     requires deep { at.old.rest ≤ length trail.old.frames.items }
-    ensures gives { (s : List ℕ) (n : ℕ) → spec.begins_single t.now ≡ true → spec.is_out t.now (slice_get s at.old.place) ≡ false → Gives result at.new s trail.new n (n + 1) (to_try s trail.old (after (spec.each_paths (t.now ∷ more.entry.now) s at.old.place trail.old.marks.items) (run trail.old.frames.items at.old.rest s))) }
+    requires placed { Placed (S.fits s.now) at.old trail.old }
+    ensures gives { (n : ℕ) → spec.begins_single t.now ≡ true → spec.is_out t.now (slice_get s.now at.old.cursor.place) ≡ false → Gives result at.new s.now trail.new n (n + 1) (to_try s.now trail.old (after (spec.each_paths (t.now ∷ more.entry.now) s.now at.old.cursor.place (closings trail.old.marks.items)) (run trail.old.frames.items at.old.rest s.now))) }
     ensures stands { Stands result at.new trail.new }
+    ensures placed { Stays result (S.fits s.now) at.new trail.new }
 {
     let Ok(()) = keep_later(more, at, trail) else {
         return Turn::Full;
     };
     if let [_, behind @ ..] = t.nodes() {
         at.part = Part::Nodes(behind);
-        at.place += 1;
+        s.skip(&mut at.cursor, 1);
     }
     Turn::Go
 }
@@ -130,8 +143,9 @@ fn others_turn<'t>(
 ) -> Turn
     requires sound { Sound trail.old }
     requires deep { at.old.rest ≤ length trail.old.frames.items }
-    ensures gives { (s : List ℕ) (n : ℕ) → unit ≡ slice_get s at.old.place → Gives result at.new s trail.new n n (to_try s trail.old (after (spec.each_paths trees.entry.now s at.old.place trail.old.marks.items) (run trail.old.frames.items at.old.rest s))) }
+    ensures gives { (s : List ℕ) (n : ℕ) → unit ≡ slice_get s at.old.cursor.place → Gives result at.new s trail.new n n (to_try s trail.old (after (spec.each_paths trees.entry.now s at.old.cursor.place (closings trail.old.marks.items)) (run trail.old.frames.items at.old.rest s))) }
     ensures stands { Stands result at.new trail.new }
+    ensures placed { (ok : Cursor → Bool) → Placed ok at.old trail.old → Stays result ok at.new trail.new }
 {
     match left_of(trees, unit) {
         [] => Turn::Fail,
@@ -151,14 +165,17 @@ fn looked_turn<'t, S: StrDrive, L: Ledger>(
     requires begins { spec.begins_single t.now ≡ true }
     requires sound { Sound trail.old }
     requires deep { at.old.rest ≤ length trail.old.frames.items }
-    ensures gives { Gives result at.new s.now trail.new steps.old steps.new (to_try s.now trail.old (after (spec.each_paths (t.now ∷ more.entry.now) s.now at.old.place trail.old.marks.items) (run trail.old.frames.items at.old.rest s.now))) }
+    requires placed { Placed (S.fits s.now) at.old trail.old }
+    requires counter { S.counts L.name }
+    ensures gives { Gives result at.new s.now trail.new steps.old steps.new (to_try s.now trail.old (after (spec.each_paths (t.now ∷ more.entry.now) s.now at.old.cursor.place (closings trail.old.marks.items)) (run trail.old.frames.items at.old.rest s.now))) }
     ensures stands { Stands result at.new trail.new }
+    ensures placed { Stays result (S.fits s.now) at.new trail.new }
 {
-    let unit = unit_at(s, at.place, steps);
+    let unit = unit_at(s, &at.cursor, steps);
     if is_out(t, unit) {
         others_turn(more, unit, at, trail)
     } else {
-        met_turn(t, left_of(more, unit), at, trail)
+        met_turn(t, left_of(more, unit), s, at, trail)
     }
 }
 
@@ -173,8 +190,11 @@ pub fn trees_turn<'t, S: StrDrive, L: Ledger>(
 ) -> Turn
     requires sound { Sound trail.old }
     requires deep { at.old.rest ≤ length trail.old.frames.items }
-    ensures gives { Gives result at.new s.now trail.new steps.old steps.new (to_try s.now trail.old (after (all_paths (trees_of trees.now) s.now at.old.place trail.old.marks.items) (run trail.old.frames.items at.old.rest s.now))) }
+    requires placed { Placed (S.fits s.now) at.old trail.old }
+    requires counter { S.counts L.name }
+    ensures gives { Gives result at.new s.now trail.new steps.old steps.new (to_try s.now trail.old (after (all_paths (trees_of trees.now) s.now at.old.cursor.place (closings trail.old.marks.items)) (run trail.old.frames.items at.old.rest s.now))) }
     ensures stands { Stands result at.new trail.new }
+    ensures placed { Stays result (S.fits s.now) at.new trail.new }
 {
     match trees {
         [] => {

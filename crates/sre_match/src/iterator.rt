@@ -9,7 +9,7 @@ use crate::request::Request;
 use crate::search::next_ends;
 use crate::state::State;
 use crate::trail::{Trail, new_trail};
-use crate::view::StrDrive;
+use crate::view::{StrDrive, StringCursor};
 use py_base::Steps;
 use std::alloc::Global;
 use std::marker::Model;
@@ -22,21 +22,21 @@ pub struct SearchIter<'c, S: StrDrive> {
     request: Request<'c, S>,
     state: State,
     trail: Trail<'c>,
-    place: usize,
+    cursor: Option<StringCursor>,
     advance: bool,
 }
 
 impl<'c, S: StrDrive> Model for SearchIter<'c, S> {
-    ghost use Rattle.std.specs.Prelude.{◌≡◌, false};
-    ghost use Rattle.sre_match.specs.Search.{Walk, walk_code};
+    ghost use Rattle.std.specs.Prelude.{◌≡◌, false, true, length};
+    ghost use Rattle.sre_match.specs.Search.{Walk, walk_code, place_of, is_standing};
 
     ghost Value = { Walk };
 
     ghost coded = { walk_code };
 
-    ghost view = { λ w. record { search = w.request; standing = record { place = w.place; advance = w.advance }; span = w.state } };
+    ghost view = { λ w. record { search = w.request; standing = record { place = place_of w.cursor w.request.start; advance = w.advance }; span = w.state } };
 
-    ghost invariant = { λ w. w.request.whole ≡ false };
+    ghost invariant = { λ w. (w.request.whole ≡ false) × (is_standing (S.fits w.request.subject) (length w.request.subject) w.request.start w.cursor ≡ true) };
 }
 
 impl<'c, S: StrDrive> SearchIter<'c, S> {
@@ -49,7 +49,7 @@ impl<'c, S: StrDrive> SearchIter<'c, S> {
         ensures span { result.span ≡ record { start = 0; stop = 0; marks = [] } }
     {
         SearchIter {
-            place: request.start,
+            cursor: request.first_cursor(),
             request,
             state: State::new(alloc),
             trail: new_trail(alloc),
@@ -63,6 +63,7 @@ impl<'c, S: StrDrive> SearchIter<'c, S> {
     ///
     /// `NoMemory`. The walk stands where it stood, and has the span that it had.
     pub fn next<L: Ledger>(&mut self, steps: &mut Steps<L>) -> Result<bool, MatchError>
+        requires { S.counts L.name }
         ensures found { IfOk result (λ found. if_found found self.new.span ≡ next_span self.old.search.tree self.old.search.subject self.old.standing.place self.old.standing.advance false) }
         ensures moved { OnOk result (self.new.standing ≡ stands_behind (next_span self.old.search.tree self.old.search.subject self.old.standing.place self.old.standing.advance false) self.old.standing) }
         ensures refused { OnErr result (self.new.standing ≡ self.old.standing) }
@@ -70,17 +71,21 @@ impl<'c, S: StrDrive> SearchIter<'c, S> {
         ensures search { self.new.search ≡ self.old.search }
         ensures cost { steps.new ≤ steps.old + next_reads self.old.search.tree self.old.search.subject self.old.standing.place self.old.standing.advance false }
     {
+        let cursor = match self.cursor {
+            None => return Ok(false),
+            Some(cursor) => cursor,
+        };
         match next_ends(
             &self.request,
             &mut self.trail,
-            self.place,
+            &cursor,
             self.advance,
             steps,
         )? {
             None => Ok(false),
             Some((start, stop)) => {
-                self.place = stop;
-                self.advance = start == stop;
+                self.cursor = Some(stop);
+                self.advance = start.place == stop.place;
                 self.state.hold(start, stop, &mut self.trail.marks);
                 Ok(true)
             }

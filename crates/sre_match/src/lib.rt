@@ -23,10 +23,7 @@ mod view;
 
 pub use error::MatchError;
 pub use iterator::SearchIter;
-pub use marks::{Closed, Marks};
+pub use marks::Marks;
 pub use request::Request;
 pub use state::State;
-pub use view::{PlaceView, StrDrive, StringCursor};
-
-#[cfg(test)]
-mod tests;
+pub use view::{ByteView, PlaceView, StrDrive, StringCursor, TextView};

@@ -1,7 +1,10 @@
 //! The first allowed outcome of a tree at a place.
 
-ghost use Rattle.std.specs.Prelude.{◌≡◌, ◌+◌, ◌≤◌, ℕ, Bool, List, [], None, IfOk, IfSome, option_map, length};
-ghost use Rattle.sre_match.specs.Machine.{run, part_next, step_next, to_try, ahead_of, Sound, Gives, Stands, Leaves, Leads, Lands, outcome_with};
+ghost use Rattle.sre_match.specs.Captures.{closings};
+ghost use Rattle.sre_match.specs.Cursor.{Cursor};
+ghost use Rattle.sre_match.specs.Fits.{step_fits, Fit, Placed, Stays, Remains};
+ghost use Rattle.std.specs.Prelude.{◌≡◌, ◌+◌, ◌≤◌, ℕ, Bool, true, List, [], None, IfOk, IfSome, option_map, length};
+ghost use Rattle.sre_match.specs.Machine.{run, part_next, step_next, to_try, ahead_of, Sound, Gives, Stands, Leaves, Leads, Lands, outcome_at};
 ghost use Rattle.sre_match.specs.Attempts.{after, chosen, cost_of};
 ghost use Rattle.sre_match.specs.Paths.{paths};
 ghost use Rattle.sre_code.specs.TreeView.{tree_of};
@@ -14,7 +17,7 @@ use crate::singles::{is_met, is_single};
 use crate::trail::{At, Part, Step, Trail, Turn, clear, drop_frame, frame_in, go_back};
 use crate::turns::{back_turn, close_turn, leave};
 use crate::units::Cut;
-use crate::view::StrDrive;
+use crate::view::{StrDrive, StringCursor};
 use py_base::Steps;
 use sre_code::{Node, Tree};
 use std::alloc::AllocError;
@@ -50,8 +53,12 @@ fn step_turn<'t, S: StrDrive, L: Ledger>(
 ) -> Turn
     requires sound { Sound trail.old }
     requires deep { at.old.rest ≤ length trail.old.frames.items }
-    ensures gives { Gives result at.new s.now trail.new steps.old steps.new (to_try s.now trail.old (after (step_next step.entry s.now at.old.place trail.old.marks.items) (run trail.old.frames.items at.old.rest s.now))) }
+    requires step { step_fits (S.fits s.now) step ≡ true }
+    requires placed { Placed (S.fits s.now) at.old trail.old }
+    requires counter { S.counts L.name }
+    ensures gives { Gives result at.new s.now trail.new steps.old steps.new (to_try s.now trail.old (after (step_next step.entry s.now at.old.cursor.place (closings trail.old.marks.items)) (run trail.old.frames.items at.old.rest s.now))) }
     ensures stands { Stands result at.new trail.new }
+    ensures placed { Stays result (S.fits s.now) at.new trail.new }
 {
     match step {
         Step::Then(nodes) => nodes_turn(nodes, s, at, trail, steps),
@@ -70,8 +77,11 @@ fn rest_turn<'t, S: StrDrive, L: Ledger>(
 ) -> Turn
     requires sound { Sound trail.old }
     requires deep { at.old.rest ≤ length trail.old.frames.items }
-    ensures gives { Gives result at.new s.now trail.new steps.old steps.new (to_try s.now trail.old (run trail.old.frames.items at.old.rest s.now at.old.place trail.old.marks.items)) }
+    requires placed { Placed (S.fits s.now) at.old trail.old }
+    requires counter { S.counts L.name }
+    ensures gives { Gives result at.new s.now trail.new steps.old steps.new (to_try s.now trail.old (run trail.old.frames.items at.old.rest s.now at.old.cursor.place (closings trail.old.marks.items))) }
     ensures stands { Stands result at.new trail.new }
+    ensures placed { Stays result (S.fits s.now) at.new trail.new }
 {
     let rest = at.rest;
     if rest == 0 {
@@ -95,8 +105,11 @@ fn take_turn<'t, S: StrDrive, L: Ledger>(
 ) -> Turn
     requires sound { Sound trail.old }
     requires deep { at.old.rest ≤ length trail.old.frames.items }
+    requires placed { Placed (S.fits s.now) at.old trail.old }
+    requires counter { S.counts L.name }
     ensures gives { Gives result at.new s.now trail.new steps.old steps.new (ahead_of at.old s.now trail.old) }
     ensures stands { Stands result at.new trail.new }
+    ensures placed { Stays result (S.fits s.now) at.new trail.new }
 {
     match at.part {
         Part::Skip => rest_turn(s, at, trail, steps),
@@ -108,7 +121,7 @@ fn take_turn<'t, S: StrDrive, L: Ledger>(
             }
         }
         Part::Trees(trees) => trees_turn(trees, s, at, trail, steps),
-        Part::Back(count) => back_turn(count, at, trail),
+        Part::Back(count) => back_turn(count, s, at, trail),
         Part::Once(body, j) => once_turn(body, j, s, at, trail, steps),
     }
 }
@@ -118,6 +131,7 @@ fn retry<'t>(at: &mut At<'t>, trail: &mut Trail<'t>) -> After
     requires { Sound trail.old }
     ensures leads { (ok : ℕ → Bool) (s : List ℕ) (n : ℕ) → Leads result at.new ok s trail.new n n (to_try s trail.old []) }
     ensures lands { Lands result at.new trail.new }
+    ensures placed { (ok : Cursor → Bool) → Fit ok trail.old → Remains result ok at.new trail.new }
 {
     if go_back(at, trail) {
         After::More
@@ -138,14 +152,17 @@ fn next_turn<'t, S: StrDrive, L: Ledger>(
 ) -> After
     requires sound { Sound trail.old }
     requires deep { at.old.rest ≤ length trail.old.frames.items }
+    requires placed { Placed (S.fits s.now) at.old trail.old }
+    requires counter { S.counts L.name }
     ensures leads { Leads result at.new (is_allowed s.now start advance whole) s.now trail.new steps.old steps.new (ahead_of at.old s.now trail.old) }
     ensures lands { Lands result at.new trail.new }
+    ensures placed { Remains result (S.fits s.now) at.new trail.new }
 {
     match take_turn(s, at, trail, steps) {
         Turn::Go => After::More,
         Turn::Fail => retry(at, trail),
         Turn::Done => {
-            if is_allowed(s.count(), start, advance, whole, at.place) {
+            if is_allowed(s.count(), start, advance, whole, at.cursor.place) {
                 After::Found
             } else {
                 retry(at, trail)
@@ -160,17 +177,20 @@ fn next_turn<'t, S: StrDrive, L: Ledger>(
 fn first_look<'t, S: StrDrive, L: Ledger>(
     nodes: &'t [Node],
     s: &Cut<'_, S>,
-    place: usize,
+    cursor: &StringCursor,
     steps: &mut Steps<L>,
 ) -> Option<At<'t>>
-    ensures begins { IfSome result (λ at. Leaves steps.old steps.new (paths (tree_of nodes.entry.now) s.now place []) (part_next at.part s.now at.place [])) }
+    requires fits { S.fits s.now cursor.now ≡ true }
+    requires counter { S.counts L.name }
+    ensures begins { IfSome result (λ at. Leaves steps.old steps.new (paths (tree_of nodes.entry.now) s.now cursor.now.place []) (part_next at.part s.now at.cursor.place [])) }
     ensures rest { IfSome result (λ at. at.rest ≡ 0) }
-    ensures fails { result ≡ None → Leaves steps.old steps.new (paths (tree_of nodes.entry.now) s.now place []) [] }
+    ensures fits { IfSome result (λ at. S.fits s.now at.cursor ≡ true) }
+    ensures fails { result ≡ None → Leaves steps.old steps.new (paths (tree_of nodes.entry.now) s.now cursor.now.place []) [] }
 {
     let whole = At {
         part: Part::Nodes(nodes),
         rest: 0,
-        place,
+        cursor: *cursor,
     };
     match nodes {
         [] => Some(whole),
@@ -178,13 +198,15 @@ fn first_look<'t, S: StrDrive, L: Ledger>(
             if !is_single(node) {
                 return Some(whole);
             }
-            if !is_met(node, s, place, steps) {
+            if !is_met(node, s, cursor, steps) {
                 return None;
             }
+            let mut behind = *cursor;
+            s.skip(&mut behind, 1);
             Some(At {
                 part: Part::Nodes(more),
                 rest: 0,
-                place: place + 1,
+                cursor: behind,
             })
         }
     }
@@ -199,17 +221,20 @@ fn run_from<'t, S: StrDrive, L: Ledger>(
     advance: bool,
     whole: bool,
     steps: &mut Steps<L>,
-) -> Result<Option<usize>, AllocError>
+) -> Result<Option<StringCursor>, AllocError>
     requires sound { Sound trail.old }
     requires deep { at.rest ≤ length trail.old.frames.items }
-    ensures found { IfOk result (λ o. option_map (outcome_with trail.new.marks.items) o ≡ chosen (is_allowed s.now start advance whole) (ahead_of at.entry s.now trail.old)) }
+    requires placed { Placed (S.fits s.now) at trail.old }
+    requires counter { S.counts L.name }
+    ensures fits { IfOk result (λ o. IfSome o (λ c. S.fits s.now c ≡ true)) }
+    ensures found { IfOk result (λ o. option_map (outcome_at (closings trail.new.marks.items)) o ≡ chosen (is_allowed s.now start advance whole) (ahead_of at.entry s.now trail.old)) }
     ensures cost { steps.new ≤ steps.old + cost_of (is_allowed s.now start advance whole) (ahead_of at.entry s.now trail.old) }
 {
     let mut at = at;
     for _turn in 0..u64::MAX {
         match next_turn(s, &mut at, trail, start, advance, whole, steps) {
             After::More => {}
-            After::Found => return Ok(Some(at.place)),
+            After::Found => return Ok(Some(at.cursor)),
             After::Nothing => return Ok(None),
             After::NoMemory => return Err(AllocError),
         }
@@ -222,22 +247,22 @@ pub fn find_at<'t, S: StrDrive, L: Ledger>(
     trail: &mut Trail<'t>,
     tree: &'t Tree,
     s: &Cut<'_, S>,
-    start: usize,
+    start: &StringCursor,
     advance: bool,
     whole: bool,
     steps: &mut Steps<L>,
-) -> Result<Option<usize>, AllocError>
-    ensures found { IfOk result (λ o. option_map (outcome_with trail.new.marks.items) o ≡ first_allowed tree.now s.now start advance whole) }
-    ensures cost { steps.new ≤ steps.old + reads tree.now s.now start advance whole }
+) -> Result<Option<StringCursor>, AllocError>
+    requires fits { S.fits s.now start.now ≡ true }
+    requires counter { S.counts L.name }
+    ensures fits { IfOk result (λ o. IfSome o (λ c. S.fits s.now c ≡ true)) }
+    ensures found { IfOk result (λ o. option_map (outcome_at (closings trail.new.marks.items)) o ≡ first_allowed tree.now s.now start.now.place advance whole) }
+    ensures cost { steps.new ≤ steps.old + reads tree.now s.now start.now.place advance whole }
 {
-    if start > s.count() {
-        return Ok(None);
-    }
     match first_look(tree.nodes(), s, start, steps) {
         None => Ok(None),
         Some(at) => {
             clear(trail);
-            run_from(at, trail, s, start, advance, whole, steps)
+            run_from(at, trail, s, start.place, advance, whole, steps)
         }
     }
 }

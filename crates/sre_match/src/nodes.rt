@@ -1,5 +1,7 @@
 //! One turn of the matcher at a node.
 
+ghost use Rattle.sre_match.specs.Captures.{closings};
+ghost use Rattle.sre_match.specs.Fits.{Placed, Stays};
 ghost use Rattle.std.specs.Prelude.{◌≡◌, ◌≤◌, ◌∷◌, length};
 ghost use Rattle.sre_match.specs.Machine.{run, to_try, Sound, Gives, Stands};
 ghost use Rattle.sre_match.specs.Attempts.{after};
@@ -30,10 +32,13 @@ fn at_turn<'t, S: StrDrive, L: Ledger>(
 ) -> Turn
     requires sound { Sound trail.now }
     requires deep { at.old.rest ≤ length trail.now.frames.items }
-    ensures gives { Gives result at.new s.now trail.now steps.old steps.new (to_try s.now trail.now (after (node_paths (at_node k) s.now at.old.place trail.now.marks.items) (run trail.now.frames.items at.old.rest s.now))) }
+    requires placed { Placed (S.fits s.now) at.old trail.now }
+    requires counter { S.counts L.name }
+    ensures gives { Gives result at.new s.now trail.now steps.old steps.new (to_try s.now trail.now (after (node_paths (at_node k) s.now at.old.cursor.place (closings trail.now.marks.items)) (run trail.now.frames.items at.old.rest s.now))) }
     ensures stands { Stands result at.new trail.now }
+    ensures placed { Stays result (S.fits s.now) at.new trail.now }
 {
-    if at_place(k, s, at.place, steps) {
+    if at_place(k, s, &at.cursor, steps) {
         at.part = Part::Skip;
         Turn::Go
     } else {
@@ -51,8 +56,11 @@ fn node_turn<'t, S: StrDrive, L: Ledger>(
 ) -> Turn
     requires sound { Sound trail.old }
     requires deep { at.old.rest ≤ length trail.old.frames.items }
-    ensures gives { Gives result at.new s.now trail.new steps.old steps.new (to_try s.now trail.old (after (node_paths (node_of node.now) s.now at.old.place trail.old.marks.items) (run trail.old.frames.items at.old.rest s.now))) }
+    requires placed { Placed (S.fits s.now) at.old trail.old }
+    requires counter { S.counts L.name }
+    ensures gives { Gives result at.new s.now trail.new steps.old steps.new (to_try s.now trail.old (after (node_paths (node_of node.now) s.now at.old.cursor.place (closings trail.old.marks.items)) (run trail.old.frames.items at.old.rest s.now))) }
     ensures stands { Stands result at.new trail.new }
+    ensures placed { Stays result (S.fits s.now) at.new trail.new }
 {
     match node {
         Node::Fail => Turn::Fail,
@@ -68,7 +76,7 @@ fn node_turn<'t, S: StrDrive, L: Ledger>(
         Node::Branch(ts) => trees_turn(ts.trees(), s, at, trail, steps),
         Node::Repeat(kind, _, lo, hi, b) => repeat_turn(*kind, *lo, *hi, b, s, at, trail, steps),
         Node::Atomic(b) => atomic_turn(b, at, trail),
-        Node::Look(positive, back, b) => look_turn(*positive, *back, b, at, trail),
+        Node::Look(positive, back, b) => look_turn(*positive, *back, b, s, at, trail),
     }
 }
 
@@ -83,8 +91,11 @@ fn first_turn<'t, S: StrDrive, L: Ledger>(
 ) -> Turn
     requires sound { Sound trail.old }
     requires deep { at.old.rest ≤ length trail.old.frames.items }
-    ensures gives { Gives result at.new s.now trail.new steps.old steps.new (to_try s.now trail.old (after (paths (tree_of (node.now ∷ more.now)) s.now at.old.place trail.old.marks.items) (run trail.old.frames.items at.old.rest s.now))) }
+    requires placed { Placed (S.fits s.now) at.old trail.old }
+    requires counter { S.counts L.name }
+    ensures gives { Gives result at.new s.now trail.new steps.old steps.new (to_try s.now trail.old (after (paths (tree_of (node.now ∷ more.now)) s.now at.old.cursor.place (closings trail.old.marks.items)) (run trail.old.frames.items at.old.rest s.now))) }
     ensures stands { Stands result at.new trail.new }
+    ensures placed { Stays result (S.fits s.now) at.new trail.new }
 {
     if is_single(node) {
         return single_turn(node, Part::Nodes(more), s, at, trail, steps);
@@ -108,8 +119,11 @@ pub fn nodes_turn<'t, S: StrDrive, L: Ledger>(
 ) -> Turn
     requires sound { Sound trail.old }
     requires deep { at.old.rest ≤ length trail.old.frames.items }
-    ensures gives { Gives result at.new s.now trail.new steps.old steps.new (to_try s.now trail.old (after (paths (tree_of nodes.now) s.now at.old.place trail.old.marks.items) (run trail.old.frames.items at.old.rest s.now))) }
+    requires placed { Placed (S.fits s.now) at.old trail.old }
+    requires counter { S.counts L.name }
+    ensures gives { Gives result at.new s.now trail.new steps.old steps.new (to_try s.now trail.old (after (paths (tree_of nodes.now) s.now at.old.cursor.place (closings trail.old.marks.items)) (run trail.old.frames.items at.old.rest s.now))) }
     ensures stands { Stands result at.new trail.new }
+    ensures placed { Stays result (S.fits s.now) at.new trail.new }
 {
     match nodes {
         [] => {

@@ -1,33 +1,39 @@
 //! Where the places of a subject are that a code names by a kind.
 
-ghost use Rattle.std.specs.Prelude.{◌≡◌, ◌+◌, ◌≤◌, IsTrue};
+ghost use Rattle.std.specs.Prelude.{◌≡◌, ◌+◌, ◌≤◌, IsTrue, true};
 ghost use Rattle.py_base.specs.Chars.Categories.{is_category, in_category};
 ghost use Rattle.sre_match.specs.Places.{met_at, met_before, is_newline, is_boundary, is_last_end, at_place};
 
 use crate::units::{Cut, unit_at, unit_before};
-use crate::view::StrDrive;
-use py_base::{Steps, category};
+use crate::view::{StrDrive, StringCursor};
+use py_base::{CATEGORY_LINEBREAK, CATEGORY_UNI_WORD, CATEGORY_WORD, LINE_FEED, Steps, category};
+use sre_code::opcodes::{
+    AT_BEGINNING, AT_BEGINNING_LINE, AT_BEGINNING_STRING, AT_BOUNDARY, AT_END, AT_END_LINE,
+    AT_END_STRING, AT_NON_BOUNDARY, AT_UNI_BOUNDARY, AT_UNI_NON_BOUNDARY,
+};
 use std::sync::ledger::Ledger;
 
 /// Whether a unit ends a line.
 pub fn is_newline(c: u32) -> bool
     ensures { result ≡ is_newline c }
 {
-    c == 10
+    c == LINE_FEED
 }
 
 // Whether a unit of a category stands here.
 fn category_at<S: StrDrive, L: Ledger>(
     k: u32,
     s: &Cut<'_, S>,
-    p: usize,
+    cursor: &StringCursor,
     steps: &mut Steps<L>,
 ) -> bool
-    requires { IsTrue (is_category k) }
-    ensures met { result ≡ met_at (in_category k) s.now p }
+    requires category { IsTrue (is_category k) }
+    requires fits { S.fits s.now cursor.now ≡ true }
+    requires counter { S.counts L.name }
+    ensures met { result ≡ met_at (in_category k) s.now cursor.now.place }
     ensures cost { steps.new ≤ steps.old + 1 }
 {
-    match unit_at(s, p, steps) {
+    match unit_at(s, cursor, steps) {
         Some(c) => category(k, c),
         None => false,
     }
@@ -38,17 +44,19 @@ fn category_at<S: StrDrive, L: Ledger>(
 fn category_before<S: StrDrive, L: Ledger>(
     k: u32,
     s: &Cut<'_, S>,
-    p: usize,
+    cursor: &StringCursor,
     steps: &mut Steps<L>,
 ) -> bool
-    requires { IsTrue (is_category k) }
-    ensures met { result ≡ met_before (in_category k) s.now p }
+    requires category { IsTrue (is_category k) }
+    requires fits { S.fits s.now cursor.now ≡ true }
+    requires counter { S.counts L.name }
+    ensures met { result ≡ met_before (in_category k) s.now cursor.now.place }
     ensures cost { steps.new ≤ steps.old + 1 }
 {
-    if p == 0 {
+    if cursor.place == 0 {
         return false;
     }
-    match unit_before(s, p, steps) {
+    match unit_before(s, cursor, steps) {
         Some(c) => category(k, c),
         None => false,
     }
@@ -58,50 +66,57 @@ fn category_before<S: StrDrive, L: Ledger>(
 fn is_boundary<S: StrDrive, L: Ledger>(
     k: u32,
     s: &Cut<'_, S>,
-    p: usize,
+    cursor: &StringCursor,
     steps: &mut Steps<L>,
 ) -> bool
-    requires { IsTrue (is_category k) }
-    ensures met { result ≡ is_boundary (in_category k) s.now p }
+    requires category { IsTrue (is_category k) }
+    requires fits { S.fits s.now cursor.now ≡ true }
+    requires counter { S.counts L.name }
+    ensures met { result ≡ is_boundary (in_category k) s.now cursor.now.place }
     ensures cost { steps.new ≤ steps.old + 2 }
 {
-    let left = category_before(k, s, p, steps);
-    let right = category_at(k, s, p, steps);
+    let left = category_before(k, s, cursor, steps);
+    let right = category_at(k, s, cursor, steps);
     if left { !right } else { right }
 }
 
 // Whether the subject ends here, or behind one line end.
-fn is_last_end<S: StrDrive, L: Ledger>(s: &Cut<'_, S>, p: usize, steps: &mut Steps<L>) -> bool
-    ensures met { result ≡ is_last_end s.now p }
+fn is_last_end<S: StrDrive, L: Ledger>(s: &Cut<'_, S>, cursor: &StringCursor, steps: &mut Steps<L>) -> bool
+    requires fits { S.fits s.now cursor.now ≡ true }
+    requires counter { S.counts L.name }
+    ensures met { result ≡ is_last_end s.now cursor.now.place }
     ensures cost { steps.new ≤ steps.old + 1 }
 {
     let count = s.count();
-    if p == count {
+    let place = cursor.place;
+    if place == count {
         return true;
     }
-    p < count && p + 1 == count && category_at(6, s, p, steps)
+    place < count && place + 1 == count && category_at(CATEGORY_LINEBREAK, s, cursor, steps)
 }
 
 /// Whether a place is of kind k.
 pub fn at_place<S: StrDrive, L: Ledger>(
     k: u32,
     s: &Cut<'_, S>,
-    p: usize,
+    cursor: &StringCursor,
     steps: &mut Steps<L>,
 ) -> bool
-    ensures met { result ≡ at_place k s.now p }
+    requires fits { S.fits s.now cursor.now ≡ true }
+    requires counter { S.counts L.name }
+    ensures met { result ≡ at_place k s.now cursor.now.place }
     ensures cost { steps.new ≤ steps.old + 2 }
 {
     match k {
-        0 | 2 => p == 0,
-        1 => p == 0 || category_before(6, s, p, steps),
-        3 => is_boundary(4, s, p, steps),
-        4 => !is_boundary(4, s, p, steps),
-        5 => is_last_end(s, p, steps),
-        6 => p == s.count() || category_at(6, s, p, steps),
-        7 => p == s.count(),
-        10 => is_boundary(14, s, p, steps),
-        11 => !is_boundary(14, s, p, steps),
+        AT_BEGINNING | AT_BEGINNING_STRING => cursor.place == 0,
+        AT_BEGINNING_LINE => cursor.place == 0 || category_before(CATEGORY_LINEBREAK, s, cursor, steps),
+        AT_BOUNDARY => is_boundary(CATEGORY_WORD, s, cursor, steps),
+        AT_NON_BOUNDARY => !is_boundary(CATEGORY_WORD, s, cursor, steps),
+        AT_END => is_last_end(s, cursor, steps),
+        AT_END_LINE => cursor.place == s.count() || category_at(CATEGORY_LINEBREAK, s, cursor, steps),
+        AT_END_STRING => cursor.place == s.count(),
+        AT_UNI_BOUNDARY => is_boundary(CATEGORY_UNI_WORD, s, cursor, steps),
+        AT_UNI_NON_BOUNDARY => !is_boundary(CATEGORY_UNI_WORD, s, cursor, steps),
         _ => false,
     }
 }

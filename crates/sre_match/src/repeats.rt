@@ -1,5 +1,8 @@
 //! One turn of the matcher in a repeat.
 
+ghost use Rattle.sre_match.specs.Captures.{closings};
+ghost use Rattle.sre_match.specs.Cursor.{Cursor};
+ghost use Rattle.sre_match.specs.Fits.{Placed, Stays};
 ghost use Rattle.std.specs.Prelude.{◌≡◌, ◌+◌, ◌<◌, ◌≤◌, ◌^◌, ℕ, Bool, List, ◌++◌, true, false, Some, length};
 ghost use Rattle.sre_match.specs.Machine.{run, part_next, kind_paths, to_try, Sound, Gives, Stands};
 ghost use Rattle.sre_match.specs.Attempts.{after, cut};
@@ -15,6 +18,7 @@ use crate::turns::back_turn;
 use crate::units::Cut;
 use crate::view::StrDrive;
 use py_base::Steps;
+use sre_code::opcodes::MAXREPEAT;
 use sre_code::{Node, RepeatKind, Tree};
 use std::sync::ledger::Ledger;
 
@@ -34,7 +38,7 @@ fn room_in(len: usize, lo: u32, hi: u32) -> usize
     ensures room { result ≡ room_in len lo hi }
     ensures bound { result < 2 ^ 63 + 2 }
 {
-    if hi == 4294967295 {
+    if hi == MAXREPEAT {
         len + 2
     } else if hi < lo {
         0
@@ -47,13 +51,14 @@ fn room_in(len: usize, lo: u32, hi: u32) -> usize
 fn once_first<'t>(body: &'t Tree, j: usize, at: &mut At<'t>, trail: &mut Trail<'t>) -> Turn
     requires sound { Sound trail.old }
     requires deep { at.old.rest ≤ length trail.old.frames.items }
-    ensures gives { (s : List ℕ) (n : ℕ) → Gives result at.new s trail.new n n (to_try s trail.old (after (after (paths body.now s at.old.place trail.old.marks.items) (optional (paths body.now s) true j (Some at.old.place))) (run trail.old.frames.items at.old.rest s) ++ run trail.old.frames.items at.old.rest s at.old.place trail.old.marks.items)) }
+    ensures gives { (s : List ℕ) (n : ℕ) → Gives result at.new s trail.new n n (to_try s trail.old (after (after (paths body.now s at.old.cursor.place (closings trail.old.marks.items)) (optional (paths body.now s) true j (Some at.old.cursor.place))) (run trail.old.frames.items at.old.rest s) ++ run trail.old.frames.items at.old.rest s at.old.cursor.place (closings trail.old.marks.items))) }
     ensures stands { Stands result at.new trail.new }
+    ensures placed { (ok : Cursor → Bool) → Placed ok at.old trail.old → Stays result ok at.new trail.new }
 {
-    let Ok(()) = keep(trail, Kind::Try, Part::Skip, at.rest, at.place) else {
+    let Ok(()) = keep(trail, Kind::Try, Part::Skip, at.rest, at.cursor) else {
         return Turn::Full;
     };
-    match put(trail, Step::Again(true, body, j, at.place), at.rest) {
+    match put(trail, Step::Again(true, body, j, at.cursor.place), at.rest) {
         Err(_) => Turn::Full,
         Ok(again) => {
             at.part = Part::Nodes(body.nodes());
@@ -67,10 +72,11 @@ fn once_first<'t>(body: &'t Tree, j: usize, at: &mut At<'t>, trail: &mut Trail<'
 fn once_later<'t>(body: &'t Tree, j: usize, at: &mut At<'t>, trail: &mut Trail<'t>) -> Turn
     requires sound { Sound trail.old }
     requires deep { at.old.rest ≤ length trail.old.frames.items }
-    ensures gives { (s : List ℕ) (n : ℕ) → Gives result at.new s trail.new n n (to_try s trail.old (run trail.old.frames.items at.old.rest s at.old.place trail.old.marks.items ++ after (after (paths body.now s at.old.place trail.old.marks.items) (optional (paths body.now s) false j (Some at.old.place))) (run trail.old.frames.items at.old.rest s))) }
+    ensures gives { (s : List ℕ) (n : ℕ) → Gives result at.new s trail.new n n (to_try s trail.old (run trail.old.frames.items at.old.rest s at.old.cursor.place (closings trail.old.marks.items) ++ after (after (paths body.now s at.old.cursor.place (closings trail.old.marks.items)) (optional (paths body.now s) false j (Some at.old.cursor.place))) (run trail.old.frames.items at.old.rest s))) }
     ensures stands { Stands result at.new trail.new }
+    ensures placed { (ok : Cursor → Bool) → Placed ok at.old trail.old → Stays result ok at.new trail.new }
 {
-    let Ok(()) = keep(trail, Kind::Try, Part::Once(body, j), at.rest, at.place) else {
+    let Ok(()) = keep(trail, Kind::Try, Part::Once(body, j), at.rest, at.cursor) else {
         return Turn::Full;
     };
     at.part = Part::Skip;
@@ -88,10 +94,11 @@ pub fn optional_turn<'t>(
 ) -> Turn
     requires sound { Sound trail.old }
     requires deep { at.old.rest ≤ length trail.old.frames.items }
-    ensures gives { (s : List ℕ) (n : ℕ) → Gives result at.new s trail.new n n (to_try s trail.old (after (optional (paths body.now s) greedy j q at.old.place trail.old.marks.items) (run trail.old.frames.items at.old.rest s))) }
+    ensures gives { (s : List ℕ) (n : ℕ) → Gives result at.new s trail.new n n (to_try s trail.old (after (optional (paths body.now s) greedy j q at.old.cursor.place (closings trail.old.marks.items)) (run trail.old.frames.items at.old.rest s))) }
     ensures stands { Stands result at.new trail.new }
+    ensures placed { (ok : Cursor → Bool) → Placed ok at.old trail.old → Stays result ok at.new trail.new }
 {
-    if j == 0 || !is_past(q, at.place) {
+    if j == 0 || !is_past(q, at.cursor.place) {
         at.part = Part::Skip;
         return Turn::Go;
     }
@@ -113,8 +120,9 @@ pub fn rep_turn<'t>(
 ) -> Turn
     requires sound { Sound trail.old }
     requires deep { at.old.rest ≤ length trail.old.frames.items }
-    ensures gives { (s : List ℕ) (n : ℕ) → Gives result at.new s trail.new n n (to_try s trail.old (after (repeat_paths (paths body.now s) greedy k j at.old.place trail.old.marks.items) (run trail.old.frames.items at.old.rest s))) }
+    ensures gives { (s : List ℕ) (n : ℕ) → Gives result at.new s trail.new n n (to_try s trail.old (after (repeat_paths (paths body.now s) greedy k j at.old.cursor.place (closings trail.old.marks.items)) (run trail.old.frames.items at.old.rest s))) }
     ensures stands { Stands result at.new trail.new }
+    ensures placed { (ok : Cursor → Bool) → Placed ok at.old trail.old → Stays result ok at.new trail.new }
 {
     if k == 0 {
         return optional_turn(body, greedy, j, None, at, trail);
@@ -133,10 +141,11 @@ pub fn rep_turn<'t>(
 fn iteration_turn<'t>(body: &'t Tree, j: usize, at: &mut At<'t>, trail: &mut Trail<'t>) -> Turn
     requires sound { Sound trail.old }
     requires deep { at.old.rest ≤ length trail.old.frames.items }
-    ensures gives { (s : List ℕ) (n : ℕ) → Gives result at.new s trail.new n n (to_try s trail.old (after (part_next (Part.Once body.entry j) s at.old.place trail.old.marks.items) (run trail.old.frames.items at.old.rest s))) }
+    ensures gives { (s : List ℕ) (n : ℕ) → Gives result at.new s trail.new n n (to_try s trail.old (after (part_next (Part.Once body.entry j) s at.old.cursor.place (closings trail.old.marks.items)) (run trail.old.frames.items at.old.rest s))) }
     ensures stands { Stands result at.new trail.new }
+    ensures placed { (ok : Cursor → Bool) → Placed ok at.old trail.old → Stays result ok at.new trail.new }
 {
-    match put(trail, Step::Again(false, body, j, at.place), at.rest) {
+    match put(trail, Step::Again(false, body, j, at.cursor.place), at.rest) {
         Err(_) => Turn::Full,
         Ok(again) => {
             at.part = Part::Nodes(body.nodes());
@@ -157,16 +166,19 @@ pub fn once_turn<'t, S: StrDrive, L: Ledger>(
 ) -> Turn
     requires sound { Sound trail.old }
     requires deep { at.old.rest ≤ length trail.old.frames.items }
-    ensures gives { Gives result at.new s.now trail.new steps.old steps.new (to_try s.now trail.old (after (part_next (Part.Once body.entry j) s.now at.old.place trail.old.marks.items) (run trail.old.frames.items at.old.rest s.now))) }
+    requires placed { Placed (S.fits s.now) at.old trail.old }
+    requires counter { S.counts L.name }
+    ensures gives { Gives result at.new s.now trail.new steps.old steps.new (to_try s.now trail.old (after (part_next (Part.Once body.entry j) s.now at.old.cursor.place (closings trail.old.marks.items)) (run trail.old.frames.items at.old.rest s.now))) }
     ensures stands { Stands result at.new trail.new }
+    ensures placed { Stays result (S.fits s.now) at.new trail.new }
 {
     match only_single(body) {
         None => iteration_turn(body, j, at, trail),
         Some(node) => {
-            if !is_met(node, s, at.place, steps) {
+            if !is_met(node, s, &at.cursor, steps) {
                 return Turn::Fail;
             }
-            at.place += 1;
+            s.skip(&mut at.cursor, 1);
             if j == 0 {
                 at.part = Part::Skip;
                 return Turn::Go;
@@ -192,16 +204,18 @@ fn greedy_turn<'t, S: StrDrive, L: Ledger>(
     requires room { j < 2 ^ 63 + 2 }
     requires sound { Sound trail.old }
     requires deep { at.old.rest ≤ length trail.old.frames.items }
-    ensures gives { Gives result at.new s.now trail.new steps.old steps.new (to_try s.now trail.old (after (repeat_paths (paths b.now s.now) true lo j at.old.place trail.old.marks.items) (run trail.old.frames.items at.old.rest s.now))) }
+    requires placed { Placed (S.fits s.now) at.old trail.old }
+    requires counter { S.counts L.name }
+    ensures gives { Gives result at.new s.now trail.new steps.old steps.new (to_try s.now trail.old (after (repeat_paths (paths b.now s.now) true lo j at.old.cursor.place (closings trail.old.marks.items)) (run trail.old.frames.items at.old.rest s.now))) }
     ensures stands { Stands result at.new trail.new }
+    ensures placed { Stays result (S.fits s.now) at.new trail.new }
 {
     let least = lo as usize;
-    let n = run_length(node, least + j, s, at.place, steps);
+    let n = run_length(node, least + j, s, &mut at.cursor, steps);
     if n < least {
         return Turn::Fail;
     }
-    at.place += n;
-    back_turn(n - least, at, trail)
+    back_turn(n - least, s, at, trail)
 }
 
 // A possessive repeat of a node that is one unit is next.
@@ -220,16 +234,18 @@ fn possessive_turn<'t, S: StrDrive, L: Ledger>(
     requires room { j < 2 ^ 63 + 2 }
     requires sound { Sound trail.now }
     requires deep { at.old.rest ≤ length trail.now.frames.items }
-    ensures gives { Gives result at.new s.now trail.now steps.old steps.new (to_try s.now trail.now (after (cut (repeat_paths (paths b.now s.now) true lo j at.old.place trail.now.marks.items)) (run trail.now.frames.items at.old.rest s.now))) }
+    requires placed { Placed (S.fits s.now) at.old trail.now }
+    requires counter { S.counts L.name }
+    ensures gives { Gives result at.new s.now trail.now steps.old steps.new (to_try s.now trail.now (after (cut (repeat_paths (paths b.now s.now) true lo j at.old.cursor.place (closings trail.now.marks.items))) (run trail.now.frames.items at.old.rest s.now))) }
     ensures stands { Stands result at.new trail.now }
+    ensures placed { Stays result (S.fits s.now) at.new trail.now }
 {
     let least = lo as usize;
-    let n = run_length(node, least + j, s, at.place, steps);
+    let n = run_length(node, least + j, s, &mut at.cursor, steps);
     if n < least {
         return Turn::Fail;
     }
     at.part = Part::Skip;
-    at.place += n;
     Turn::Go
 }
 
@@ -237,10 +253,11 @@ fn possessive_turn<'t, S: StrDrive, L: Ledger>(
 fn whole_turn<'t>(b: &'t Tree, lo: u32, j: usize, at: &mut At<'t>, trail: &mut Trail<'t>) -> Turn
     requires sound { Sound trail.old }
     requires deep { at.old.rest ≤ length trail.old.frames.items }
-    ensures gives { (s : List ℕ) (n : ℕ) → Gives result at.new s trail.new n n (to_try s trail.old (after (cut (repeat_paths (paths b.now s) true lo j at.old.place trail.old.marks.items)) (run trail.old.frames.items at.old.rest s))) }
+    ensures gives { (s : List ℕ) (n : ℕ) → Gives result at.new s trail.new n n (to_try s trail.old (after (cut (repeat_paths (paths b.now s) true lo j at.old.cursor.place (closings trail.old.marks.items))) (run trail.old.frames.items at.old.rest s))) }
     ensures stands { Stands result at.new trail.new }
+    ensures placed { (ok : Cursor → Bool) → Placed ok at.old trail.old → Stays result ok at.new trail.new }
 {
-    let Ok(()) = keep(trail, Kind::Cut, Part::Skip, at.rest, at.place) else {
+    let Ok(()) = keep(trail, Kind::Cut, Part::Skip, at.rest, at.cursor) else {
         return Turn::Full;
     };
     at.rest = 0;
@@ -264,8 +281,11 @@ fn single_repeat<'t, S: StrDrive, L: Ledger>(
     requires room { j < 2 ^ 63 + 2 }
     requires sound { Sound trail.old }
     requires deep { at.old.rest ≤ length trail.old.frames.items }
-    ensures gives { Gives result at.new s.now trail.new steps.old steps.new (to_try s.now trail.old (after (kind_paths kind (paths b.now s.now) lo j at.old.place trail.old.marks.items) (run trail.old.frames.items at.old.rest s.now))) }
+    requires placed { Placed (S.fits s.now) at.old trail.old }
+    requires counter { S.counts L.name }
+    ensures gives { Gives result at.new s.now trail.new steps.old steps.new (to_try s.now trail.old (after (kind_paths kind (paths b.now s.now) lo j at.old.cursor.place (closings trail.old.marks.items)) (run trail.old.frames.items at.old.rest s.now))) }
     ensures stands { Stands result at.new trail.new }
+    ensures placed { Stays result (S.fits s.now) at.new trail.new }
 {
     match kind {
         RepeatKind::Greedy => greedy_turn(b, node, lo, j, s, at, trail, steps),
@@ -285,8 +305,9 @@ fn general_repeat<'t>(
 ) -> Turn
     requires sound { Sound trail.old }
     requires deep { at.old.rest ≤ length trail.old.frames.items }
-    ensures gives { (s : List ℕ) (n : ℕ) → Gives result at.new s trail.new n n (to_try s trail.old (after (kind_paths kind (paths b.now s) lo j at.old.place trail.old.marks.items) (run trail.old.frames.items at.old.rest s))) }
+    ensures gives { (s : List ℕ) (n : ℕ) → Gives result at.new s trail.new n n (to_try s trail.old (after (kind_paths kind (paths b.now s) lo j at.old.cursor.place (closings trail.old.marks.items)) (run trail.old.frames.items at.old.rest s))) }
     ensures stands { Stands result at.new trail.new }
+    ensures placed { (ok : Cursor → Bool) → Placed ok at.old trail.old → Stays result ok at.new trail.new }
 {
     match kind {
         RepeatKind::Greedy => rep_turn(b, true, lo, j, at, trail),
@@ -308,8 +329,11 @@ pub fn repeat_turn<'t, S: StrDrive, L: Ledger>(
 ) -> Turn
     requires sound { Sound trail.old }
     requires deep { at.old.rest ≤ length trail.old.frames.items }
-    ensures gives { (one_wide : Bool) → Gives result at.new s.now trail.new steps.old steps.new (to_try s.now trail.old (after (node_paths (repeat kind one_wide lo hi b.now) s.now at.old.place trail.old.marks.items) (run trail.old.frames.items at.old.rest s.now))) }
+    requires placed { Placed (S.fits s.now) at.old trail.old }
+    requires counter { S.counts L.name }
+    ensures gives { (one_wide : Bool) → Gives result at.new s.now trail.new steps.old steps.new (to_try s.now trail.old (after (node_paths (repeat kind one_wide lo hi b.now) s.now at.old.cursor.place (closings trail.old.marks.items)) (run trail.old.frames.items at.old.rest s.now))) }
     ensures stands { Stands result at.new trail.new }
+    ensures placed { Stays result (S.fits s.now) at.new trail.new }
 {
     let j = room_in(s.count(), lo, hi);
     match only_single(b) {

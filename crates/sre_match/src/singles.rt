@@ -1,8 +1,10 @@
 //! Nodes that are one unit.
 
+ghost use Rattle.sre_match.specs.Captures.{closings};
 ghost use Rattle.std.specs.Prelude.{◌≡◌, ◌≢◌, ◌+◌, ◌<◌, ◌≤◌, ◌^◌, ℕ, true, length, IfSome};
 ghost use Rattle.sre_match.specs.Machine.{onward, part_next, to_try, Sound, Gives, Stands};
 ghost use Rattle.sre_match.specs.Attempts.{after};
+ghost use Rattle.sre_match.specs.Fits.{Placed, Stays};
 ghost use Rattle.sre_match.specs.Paths.{attempt};
 ghost use Rattle.sre_match.specs.Places.{met_at};
 ghost use Rattle.sre_match.specs.Singles.{is_single, meets, run_of, run_cost};
@@ -13,7 +15,7 @@ use crate::places::is_newline;
 use crate::sets::holds;
 use crate::trail::{At, Part, Trail, Turn};
 use crate::units::{Cut, unit_at};
-use crate::view::StrDrive;
+use crate::view::{StrDrive, StringCursor};
 use py_base::Steps;
 use sre_code::{Node, Tree};
 use std::sync::ledger::Ledger;
@@ -70,14 +72,16 @@ pub fn meets(node: &Node, c: u32) -> bool
 pub fn is_met<S: StrDrive, L: Ledger>(
     node: &Node,
     s: &Cut<'_, S>,
-    p: usize,
+    cursor: &StringCursor,
     steps: &mut Steps<L>,
 ) -> bool
-    ensures met { result ≡ met_at (meets (node_of node.now)) s.now p }
-    ensures within { result ≡ true → p < 2 ^ 63 }
+    requires fits { S.fits s.now cursor.now ≡ true }
+    requires counter { S.counts L.name }
+    ensures met { result ≡ met_at (meets (node_of node.now)) s.now cursor.now.place }
+    ensures within { result ≡ true → cursor.now.place < length s.now }
     ensures cost { steps.new ≤ steps.old + 1 }
 {
-    match unit_at(s, p, steps) {
+    match unit_at(s, cursor, steps) {
         Some(c) => meets(node, c),
         None => false,
     }
@@ -94,12 +98,15 @@ pub fn single_turn<'t, S: StrDrive, L: Ledger>(
 ) -> Turn
     requires sound { Sound trail.now }
     requires deep { at.old.rest ≤ length trail.now.frames.items }
-    ensures gives { Gives result at.new s.now trail.now steps.old steps.new (to_try s.now trail.now (after (attempt (met_at (meets (node_of node.now)) s.now at.old.place) 1 (at.old.place + 1) trail.now.marks.items) (onward trail.now.frames.items (part_next part.entry s.now) at.old.rest s.now))) }
+    requires placed { Placed (S.fits s.now) at.old trail.now }
+    requires counter { S.counts L.name }
+    ensures gives { Gives result at.new s.now trail.now steps.old steps.new (to_try s.now trail.now (after (attempt (met_at (meets (node_of node.now)) s.now at.old.cursor.place) 1 (at.old.cursor.place + 1) (closings trail.now.marks.items)) (onward trail.now.frames.items (part_next part.entry s.now) at.old.rest s.now))) }
     ensures stands { Stands result at.new trail.now }
+    ensures placed { Stays result (S.fits s.now) at.new trail.now }
 {
-    if is_met(node, s, at.place, steps) {
+    if is_met(node, s, &at.cursor, steps) {
         at.part = part;
-        at.place += 1;
+        s.skip(&mut at.cursor, 1);
         Turn::Go
     } else {
         Turn::Fail
@@ -117,24 +124,28 @@ pub fn only_single(b: &Tree) -> Option<&Node>
     }
 }
 
-/// How many units from a place on meet a node that is one unit, at most so many.
+/// Moves a cursor on over units that meet a node that is one unit, at most so many, and answers how many.
 pub fn run_length<S: StrDrive, L: Ledger>(
     node: &Node,
     most: usize,
     s: &Cut<'_, S>,
-    p: usize,
+    cursor: &mut StringCursor,
     steps: &mut Steps<L>,
 ) -> usize
-    ensures run { result ≡ run_of (meets (node_of node.now)) s.now p most }
+    requires fits { S.fits s.now cursor.old ≡ true }
+    requires counter { S.counts L.name }
+    ensures run { result ≡ run_of (meets (node_of node.now)) s.now cursor.old.place most }
+    ensures place { cursor.new.place ≡ cursor.old.place + result }
+    ensures fits { S.fits s.now cursor.new ≡ true }
     ensures most { result ≤ most }
-    ensures within { result ≢ 0 → p + result < 2 ^ 63 + 1 }
-    ensures cost { steps.new ≤ steps.old + run_cost (meets (node_of node.now)) s.now p most }
+    ensures cost { steps.new ≤ steps.old + run_cost (meets (node_of node.now)) s.now cursor.old.place most }
 {
     let mut n = 0;
     while n < most {
-        if !is_met(node, s, p + n, steps) {
+        if !is_met(node, s, cursor, steps) {
             return n;
         }
+        s.skip(cursor, 1);
         n += 1;
     }
     n

@@ -1,8 +1,8 @@
 //! The subject of a search: a view's units up to an end, read by their places.
 
-ghost use Rattle.std.specs.Prelude.{◌≡◌, ◌+◌, ◌-◌, ◌<◌, ◌≤◌, ◌^◌, length, take, slice_index, slice_get, IfSome};
+ghost use Rattle.std.specs.Prelude.{◌≡◌, ◌+◌, ◌-◌, ◌<◌, ◌≤◌, ◌^◌, true, length, take, slice_index, slice_get, IfSome};
 
-use crate::view::StrDrive;
+use crate::view::{StrDrive, StringCursor};
 use py_base::Steps;
 use std::marker::Model;
 use std::sync::ledger::Ledger;
@@ -42,60 +42,81 @@ impl<'v, S: StrDrive> Cut<'v, S> {
         self.end
     }
 
-    /// The unit at a place. It is one step.
-    pub fn peek<L: Ledger>(&self, place: usize, steps: &mut Steps<L>) -> u32
-        requires { place < length self.now }
-        ensures unit { result ≡ slice_index self.now place }
+    /// The unit at a cursor. It is one step.
+    pub fn peek<L: Ledger>(&self, cursor: &StringCursor, steps: &mut Steps<L>) -> u32
+        requires fits { S.fits self.now cursor.now ≡ true }
+        requires there { cursor.now.place < length self.now }
+        requires counter { S.counts L.name }
+        ensures unit { result ≡ slice_index self.now cursor.now.place }
         ensures step { steps.new ≡ steps.old + 1 }
     {
-        let cursor = self.view.create_cursor(place);
-        self.view.peek(&cursor, steps)
+        self.view.peek(cursor, steps)
     }
 
-    /// The unit before a place. It is one step.
-    pub fn back_peek<L: Ledger>(&self, place: usize, steps: &mut Steps<L>) -> u32
-        requires some { 0 < place }
-        requires within { place ≤ length self.now }
-        ensures unit { result ≡ slice_index self.now (place - 1) }
+    /// The unit before a cursor. It is one step.
+    pub fn back_peek<L: Ledger>(&self, cursor: &StringCursor, steps: &mut Steps<L>) -> u32
+        requires fits { S.fits self.now cursor.now ≡ true }
+        requires some { 0 < cursor.now.place }
+        requires counter { S.counts L.name }
+        ensures unit { result ≡ slice_index self.now (cursor.now.place - 1) }
         ensures step { steps.new ≡ steps.old + 1 }
     {
-        let cursor = self.view.create_cursor(place);
-        self.view.back_peek(&cursor, steps)
+        self.view.back_peek(cursor, steps)
+    }
+
+    /// Moves a cursor on by n units.
+    pub fn skip(&self, cursor: &mut StringCursor, n: usize)
+        requires fits { S.fits self.now cursor.old ≡ true }
+        requires there { cursor.old.place + n ≤ length self.now }
+        ensures fits { S.fits self.now cursor.new ≡ true }
+        ensures place { cursor.new.place ≡ cursor.old.place + n }
+    {
+        self.view.skip(cursor, n);
+    }
+
+    /// Moves a cursor back by n units.
+    pub fn back_skip(&self, cursor: &mut StringCursor, n: usize)
+        requires fits { S.fits self.now cursor.old ≡ true }
+        requires there { n ≤ cursor.old.place }
+        ensures fits { S.fits self.now cursor.new ≡ true }
+        ensures place { cursor.new.place + n ≡ cursor.old.place }
+    {
+        self.view.back_skip(cursor, n);
     }
 }
 
-/// The unit at a place, where one is.
+/// The unit at a cursor, where one is.
 #[tactic(auto, using(crate::proofs::UnitLaws::get_there, crate::proofs::UnitLaws::get_past))]
 pub fn unit_at<S: StrDrive, L: Ledger>(
     s: &Cut<'_, S>,
-    place: usize,
+    cursor: &StringCursor,
     steps: &mut Steps<L>,
 ) -> Option<u32>
-    ensures unit { result ≡ slice_get s.now place }
-    ensures within { IfSome result (λ _. place < 2 ^ 63) }
+    requires fits { S.fits s.now cursor.now ≡ true }
+    requires counter { S.counts L.name }
+    ensures unit { result ≡ slice_get s.now cursor.now.place }
+    ensures within { IfSome result (λ _. cursor.now.place < length s.now) }
     ensures cost { steps.new ≤ steps.old + 1 }
 {
-    if place < s.count() {
-        Some(s.peek(place, steps))
+    if cursor.place < s.count() {
+        Some(s.peek(cursor, steps))
     } else {
         None
     }
 }
 
-/// The unit before a place, where one is.
+/// The unit before a cursor that is not at the beginning.
 #[tactic(auto, using(crate::proofs::UnitLaws::get_there, crate::proofs::UnitLaws::get_past))]
 pub fn unit_before<S: StrDrive, L: Ledger>(
     s: &Cut<'_, S>,
-    place: usize,
+    cursor: &StringCursor,
     steps: &mut Steps<L>,
 ) -> Option<u32>
-    requires { 0 < place }
-    ensures unit { result ≡ slice_get s.now (place - 1) }
+    requires fits { S.fits s.now cursor.now ≡ true }
+    requires some { 0 < cursor.now.place }
+    requires counter { S.counts L.name }
+    ensures unit { result ≡ slice_get s.now (cursor.now.place - 1) }
     ensures cost { steps.new ≤ steps.old + 1 }
 {
-    if place <= s.count() {
-        Some(s.back_peek(place, steps))
-    } else {
-        None
-    }
+    Some(s.back_peek(cursor, steps))
 }
