@@ -5,10 +5,10 @@ ghost use Rattle.sre_match.specs.Matches.{if_found, next_span, next_reads};
 ghost use Rattle.sre_match.specs.Search.{Standing, stands_behind};
 
 use crate::error::MatchError;
+use crate::matcher::search::next_ends;
+use crate::matcher::trail::{Trail, new_trail};
 use crate::request::Request;
-use crate::search::next_ends;
 use crate::state::State;
-use crate::trail::{Trail, new_trail};
 use crate::view::{StrDrive, StringCursor};
 use py_base::Steps;
 use std::alloc::Global;
@@ -16,7 +16,7 @@ use std::marker::Model;
 use std::sync::ledger::Ledger;
 
 /// The spans of a request's subject, one after another: each the leftmost next from the end of the one
-/// before, where an empty outcome is passed over only there, and only behind an empty span.
+/// before, where an empty outcome is passed over only there, and only after an empty span.
 #[derive(Drop)]
 pub struct SearchIter<'c, S: StrDrive> {
     request: Request<'c, S>,
@@ -28,7 +28,7 @@ pub struct SearchIter<'c, S: StrDrive> {
 
 impl<'c, S: StrDrive> Model for SearchIter<'c, S> {
     ghost use Rattle.std.specs.Prelude.{◌≡◌, false, true, length};
-    ghost use Rattle.sre_match.specs.Search.{Walk, walk_code, place_of, is_standing};
+    ghost use Rattle.sre_match.specs.Search.{Walk, walk_code, place_of, fits_or_past};
 
     ghost Value = { Walk };
 
@@ -36,7 +36,7 @@ impl<'c, S: StrDrive> Model for SearchIter<'c, S> {
 
     ghost view = { λ w. record { search = w.request; standing = record { place = place_of w.cursor w.request.start; advance = w.advance }; span = w.state } };
 
-    ghost invariant = { λ w. (w.request.whole ≡ false) × (is_standing (S.fits w.request.subject) (length w.request.subject) w.request.start w.cursor ≡ true) };
+    ghost invariant = { λ w. (w.request.whole ≡ false) × (fits_or_past (S.fits w.request.subject) (length w.request.subject) w.request.start w.cursor ≡ true) };
 }
 
 impl<'c, S: StrDrive> SearchIter<'c, S> {
@@ -57,11 +57,11 @@ impl<'c, S: StrDrive> SearchIter<'c, S> {
         }
     }
 
-    /// Whether there is one more span, which the state then holds.
+    /// Whether there is one more span, which the state then has.
     ///
     /// # Errors
     ///
-    /// `NoMemory`. The walk stands where it stood, and has the span that it had.
+    /// `NoMemory`. The walk is where it was, and has the span that it had.
     pub fn next<L: Ledger>(&mut self, steps: &mut Steps<L>) -> Result<bool, MatchError>
         requires { S.counts L.name }
         ensures found { IfOk result (λ found. if_found found self.new.span ≡ next_span self.old.search.tree self.old.search.subject self.old.standing.place self.old.standing.advance false) }
@@ -75,13 +75,7 @@ impl<'c, S: StrDrive> SearchIter<'c, S> {
             None => return Ok(false),
             Some(cursor) => cursor,
         };
-        match next_ends(
-            &self.request,
-            &mut self.trail,
-            &cursor,
-            self.advance,
-            steps,
-        )? {
+        match next_ends(&self.request, &mut self.trail, &cursor, self.advance, steps)? {
             None => Ok(false),
             Some((start, stop)) => {
                 self.cursor = Some(stop);

@@ -1,14 +1,14 @@
 //! The last match.
 
 ghost use Rattle.std.specs.Prelude.{◌≡◌, ◌≢◌, ◌≤◌, ◌+◌, [], true, Ok, IfOk, option_map};
-ghost use Rattle.sre_match.specs.Captures.{closings};
+ghost use Rattle.sre_match.specs.Captures.{captures};
 ghost use Rattle.sre_match.specs.Matches.{if_found, span_at, first_allowed, reads, next_span, next_reads};
 
 use crate::error::MatchError;
 use crate::marks::{Capture, Marks};
+use crate::matcher::search::{first_end, next_ends};
+use crate::matcher::trail::new_trail;
 use crate::request::Request;
-use crate::search::{first_end, next_ends};
-use crate::trail::new_trail;
 use crate::view::{StrDrive, StringCursor};
 use py_base::Steps;
 use std::alloc::Global;
@@ -45,21 +45,16 @@ impl State {
         }
     }
 
-    // Holds a match with these marks, and leaves the room of those that it held.
-    pub(crate) fn hold(
-        &mut self,
-        start: StringCursor,
-        stop: StringCursor,
-        marks: &mut Vec<Capture>,
-    )
-        ensures { self.new ≡ record { start = start.place; stop = stop.place; marks = closings marks.old.items } }
+    // Takes a match with these captures, and leaves the room of those that it had.
+    pub(crate) fn hold(&mut self, start: StringCursor, stop: StringCursor, marks: &mut Vec<Capture>)
+        ensures { self.new ≡ record { start = start.place; stop = stop.place; marks = captures marks.old.items } }
     {
         self.start = start;
         self.stop = stop;
         self.marks.swap(marks);
     }
 
-    /// Whether there is an allowed outcome at the request's start. The state then holds the first one.
+    /// Whether there is an allowed outcome at the request's start. The state then has the first one.
     ///
     /// # Errors
     ///
@@ -108,13 +103,7 @@ impl State {
             None => return Ok(false),
             Some(from) => from,
         };
-        match next_ends(
-            request,
-            &mut trail,
-            &from,
-            request.must_advance,
-            steps,
-        )? {
+        match next_ends(request, &mut trail, &from, request.must_advance, steps)? {
             None => Ok(false),
             Some((start, stop)) => {
                 self.hold(start, stop, &mut trail.marks);

@@ -7,19 +7,24 @@ use py_base::Steps;
 use std::sync::ledger::Ledger;
 
 mod bytes;
+mod metered;
 mod place;
 mod text;
 
 pub use bytes::ByteView;
+pub use metered::{MeteredView, metered_search};
 pub use place::PlaceView;
 pub use text::TextView;
 
 /// A place of a subject, counted in units from its beginning, and the bytes before it, where units
 /// have more than one.
-#[derive(Clone, Copy, Debug)]
+#[derive(Clone, Copy)]
+#[derive_where(Debug)]
 pub struct StringCursor {
     pub(crate) place: usize,
-    pub(crate) offset: usize,
+    // Shown to no module but the views: the widths of units could be told from it with no read.
+    #[derive_where(skip)]
+    offset: usize,
 }
 
 impl StringCursor {
@@ -34,7 +39,7 @@ impl StringCursor {
     }
 
     // The cursor at a place, with so many bytes before it.
-    fn at(place: usize, offset: usize) -> StringCursor
+    fn new(place: usize, offset: usize) -> StringCursor
         ensures { result ≡ record { place = place; offset = offset } }
     {
         StringCursor { place, offset }
@@ -63,11 +68,11 @@ pub trait StrDrive: Drop {
     /// The units.
     ghost units: { Self → List ℕ };
 
-    /// Whether the cursor stands in this list.
+    /// Whether the cursor is one of this list.
     ghost fits: { List ℕ → StringCursor → Bool };
 
     /// Which counters can count its reads, by the names of their ledgers. A body that is generic in the
-    /// view knows this of the counter that it was handed, and of no other.
+    /// view knows this of the counter that it was passed, and of no other.
     ghost counts: { ℕ → Type 0 };
 
     /// The units of a part.
@@ -121,7 +126,7 @@ pub trait StrDrive: Drop {
         requires order { from.now.place ≤ to.now.place }
         ensures { part_units result ≡ slice_range (units self.now) from.now.place to.now.place };
 
-    /// A cursor that fits a list stands within it.
+    /// The place of a cursor that fits a list is within it.
     ghost within: { (u : List ℕ) (c : StringCursor) → fits u c ≡ true → c.place ≤ length u };
 
     /// What fits a list fits its first units, where its place is among them.

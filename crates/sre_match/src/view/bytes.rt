@@ -2,7 +2,7 @@
 
 ghost use Rattle.std.specs.Prelude.{◌≡◌, ◌≤◌, length, ⊤};
 ghost use Rattle.sre_match.specs.Cursor.{is_within};
-ghost use Rattle.sre_match.specs.CursorLaws.{within_list, within_cut};
+ghost use Rattle.sre_match.specs.CursorLemmas.{within_list, within_cut};
 
 use crate::view::{StrDrive, StringCursor};
 use py_base::Steps;
@@ -52,7 +52,7 @@ impl<'s> StrDrive for ByteView<'s> {
     }
 
     fn create_cursor(&self, n: usize) -> StringCursor {
-        StringCursor::at(n, n)
+        StringCursor::new(n, n)
     }
 
     fn peek<L: Ledger>(&self, cursor: &StringCursor, steps: &mut Steps<L>) -> u32 {
@@ -63,7 +63,7 @@ impl<'s> StrDrive for ByteView<'s> {
 
     fn skip(&self, cursor: &mut StringCursor, n: usize) {
         let _bytes = self.all;
-        *cursor = StringCursor::at(cursor.position() + n, cursor.offset());
+        *cursor = StringCursor::new(cursor.position() + n, cursor.offset());
     }
 
     fn back_peek<L: Ledger>(&self, cursor: &StringCursor, steps: &mut Steps<L>) -> u32 {
@@ -73,7 +73,7 @@ impl<'s> StrDrive for ByteView<'s> {
     }
 
     fn back_skip(&self, cursor: &mut StringCursor, n: usize) {
-        *cursor = StringCursor::at(cursor.position() - n, cursor.offset());
+        *cursor = StringCursor::new(cursor.position() - n, cursor.offset());
     }
 
     fn slice(&self, from: &StringCursor, to: &StringCursor) -> &'s [u8] {

@@ -3,14 +3,14 @@
 ghost use Rattle.std.specs.Prelude.{◌≡◌, ◌+◌, ◌-◌, ◌≤◌, ◌<◌, chars, length, take, slice_index, slice_range, encode_utf8_all, true, ⊤};
 ghost use Rattle.std.specs.Str.{IsCharBoundary};
 ghost use Rattle.sre_match.specs.Cursor.{fits_text};
-ghost use Rattle.sre_match.specs.CursorLaws.{within_text, text_cut};
+ghost use Rattle.sre_match.specs.CursorLemmas.{within_text, text_cut};
 
 use crate::view::{StrDrive, StringCursor};
 use py_base::Steps;
 use std::marker::Model;
 use std::sync::ledger::Ledger;
 
-/// A text, each code point of which is a unit. Its cursors know how many bytes lie before them, and
+/// A text, each code point of which is a unit. Its cursors know how many bytes come before them, and
 /// each read decodes one code point there.
 #[derive(Drop)]
 pub struct TextView<'s> {
@@ -74,7 +74,7 @@ fn step_on(text: &str, cursor: &StringCursor) -> StringCursor
     ensures place { result.place ≡ cursor.now.place + 1 }
 {
     let width = char_at(text, cursor).len_utf8();
-    StringCursor::at(cursor.position() + 1, cursor.offset() + width)
+    StringCursor::new(cursor.position() + 1, cursor.offset() + width)
 }
 
 // One code point back.
@@ -85,7 +85,7 @@ fn step_back(text: &str, cursor: &StringCursor) -> StringCursor
     ensures place { result.place + 1 ≡ cursor.now.place }
 {
     let width = char_before(text, cursor).len_utf8();
-    StringCursor::at(cursor.position() - 1, cursor.offset() - width)
+    StringCursor::new(cursor.position() - 1, cursor.offset() - width)
 }
 
 impl<'s> StrDrive for TextView<'s> {
@@ -108,7 +108,7 @@ impl<'s> StrDrive for TextView<'s> {
     }
 
     fn create_cursor(&self, n: usize) -> StringCursor {
-        let mut cursor = StringCursor::at(0, 0);
+        let mut cursor = StringCursor::new(0, 0);
         self.skip(&mut cursor, n);
         cursor
     }
