@@ -1,4 +1,4 @@
-//! The matcher: turn by turn over the tree of a code, with what is left to do and what is still to be tried.
+//! The matcher: turns over a tree, with what is left to do and what is still to be tried.
 
 mod anchors;
 mod branches;

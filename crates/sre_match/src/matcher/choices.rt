@@ -49,7 +49,8 @@ fn choice_count<'t>(choices: &[Choice<'t>]) -> usize
     choices.len()
 }
 
-// A number in four bytes. A larger one is out of memory: a subject's every place may keep several.
+// A number in four bytes, since a subject's every place may keep several. A larger one is taken for
+// out of memory.
 fn short(n: usize) -> Result<u32, AllocError>
     ensures { IfOk result (λ k. k ≡ n) }
 {

@@ -184,7 +184,7 @@ fn next_turn<'t, S: StrDrive, L: Ledger>(
     }
 }
 
-// Where a tree begins at a place. Where its first node is one unit, that is read at once; none says that it is
+// Where a tree begins at a cursor. A first node that is one unit is read at once; none says that it is
 // not met.
 fn first_current<'t, S: StrDrive, L: Ledger>(
     nodes: &'t [Node],

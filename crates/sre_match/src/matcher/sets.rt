@@ -7,7 +7,7 @@ ghost use Rattle.sre_match.specs.Members as spec;
 use py_base::{category, is_category};
 use sre_code::{Items, SetItem};
 
-// Whether c is in the category of this number. Where a number names none, all units are in it where it
+// Whether a unit is in the category of this number. Where it names none, all units are in it where it
 // is odd, and else none.
 #[tactic(auto, using(crate::proofs::SetLemmas::no_category))]
 fn in_category(number: u32, unit: u32) -> bool
@@ -38,14 +38,14 @@ fn has_bit(word: u32, n: u32) -> bool
     (word >> n) % 2 == 1
 }
 
-// A bit of a set's words.
+// The bit of a unit below 256 in a set's words.
 fn bit_of(words: &[u32], unit: u32) -> bool
     ensures { result ≡ spec.bit_of words.now unit }
 {
     has_bit(word_in(words, (unit / 32) as usize), unit % 32)
 }
 
-// A byte of a set's map.
+// A byte of a set's map, which numbers a block for each 256 units.
 #[tactic(auto, using(crate::proofs::SetLemmas::byte_power))]
 fn byte_of(words: &[u32], place: u32) -> u32
     ensures byte { result ≡ spec.byte_of words.now place }
@@ -55,7 +55,7 @@ fn byte_of(words: &[u32], place: u32) -> u32
     (word >> (8 * (place % 4))) % 256
 }
 
-// A bit of a set's block.
+// The bit of a unit in a set's block.
 fn block_bit(blocks: &[u32], block: u32, unit: u32) -> bool
     requires { block < 256 }
     ensures { result ≡ spec.block_bit blocks.now block unit }
@@ -66,7 +66,7 @@ fn block_bit(blocks: &[u32], block: u32, unit: u32) -> bool
     )
 }
 
-// Whether c is in the block that the map names for it.
+// Whether a unit is in the block that the map names for it.
 fn in_blocks(map: &[u32], blocks: &[u32], unit: u32) -> bool
     ensures { result ≡ (nat_lt unit 65536 && spec.in_blocks map.now blocks.now unit) }
 {
@@ -77,7 +77,7 @@ fn in_blocks(map: &[u32], blocks: &[u32], unit: u32) -> bool
     (block as usize) < blocks.len() / 8 && block_bit(blocks, block, unit)
 }
 
-// Whether c is in an item.
+// Whether a unit is in an item.
 fn is_in_item(item: &SetItem, unit: u32) -> bool
     ensures { result ≡ spec.is_in_item item.now unit }
 {
@@ -90,7 +90,7 @@ fn is_in_item(item: &SetItem, unit: u32) -> bool
     }
 }
 
-/// Whether c is in some item.
+/// Whether a unit is in some item.
 pub fn is_member(items: &Items, unit: u32) -> bool
     ensures { result ≡ spec.is_member items.now unit }
 {

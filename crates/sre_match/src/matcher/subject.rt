@@ -1,4 +1,4 @@
-//! The subject of a search: a view's units up to an end, read by their places.
+//! The subject of a search: a view's units up to an end, read by cursors.
 
 ghost use Rattle.std.specs.Prelude.{◌≡◌, ◌+◌, ◌-◌, ◌<◌, ◌≤◌, ◌^◌, true, length, take, slice_index, slice_get, IfSome};
 

@@ -7,6 +7,7 @@ ghost use Rattle.sre_match.specs.CursorLemmas.{within_text, text_cut};
 
 use crate::view::{StrDrive, StringCursor};
 use py_base::Steps;
+use py_text::PyStr;
 use std::marker::Model;
 use std::sync::ledger::Ledger;
 
@@ -29,8 +30,15 @@ impl<'s> Model for TextView<'s> {
 }
 
 impl<'s> TextView<'s> {
-    /// A view of this text.
-    pub fn new(text: &'s str, count: usize) -> TextView<'s>
+    /// A view of this text, which knows how many code points it has.
+    pub fn new(text: &'s PyStr) -> TextView<'s>
+        ensures { result ≡ text.entry.now }
+    {
+        TextView::counted(text.as_str(), text.len())
+    }
+
+    // A view of a text with so many code points.
+    fn counted(text: &'s str, count: usize) -> TextView<'s>
         requires { count ≡ length (chars text.now) }
         ensures { result ≡ chars text.entry.now }
     {
