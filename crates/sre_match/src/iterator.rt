@@ -5,38 +5,38 @@ ghost use Rattle.sre_match.specs.Matches.{if_found, next_span, next_reads};
 ghost use Rattle.sre_match.specs.Search.{Standing, stands_behind};
 
 use crate::error::MatchError;
+use crate::matcher::search::next_ends;
+use crate::matcher::trail::{Trail, new_trail};
 use crate::request::Request;
-use crate::search::next_ends;
 use crate::state::State;
-use crate::trail::{Trail, new_trail};
-use crate::view::StrDrive;
+use crate::view::{StrDrive, StringCursor};
 use py_base::Steps;
 use std::alloc::Global;
 use std::marker::Model;
 use std::sync::ledger::Ledger;
 
 /// The spans of a request's subject, one after another: each the leftmost next from the end of the one
-/// before, where an empty outcome is passed over only there, and only behind an empty span.
+/// before, where an empty outcome is passed over only there, and only after an empty span.
 #[derive(Drop)]
 pub struct SearchIter<'c, S: StrDrive> {
     request: Request<'c, S>,
     state: State,
     trail: Trail<'c>,
-    place: usize,
+    cursor: Option<StringCursor>,
     advance: bool,
 }
 
 impl<'c, S: StrDrive> Model for SearchIter<'c, S> {
-    ghost use Rattle.std.specs.Prelude.{◌≡◌, false};
-    ghost use Rattle.sre_match.specs.Search.{Walk, walk_code};
+    ghost use Rattle.std.specs.Prelude.{◌≡◌, false, true, length};
+    ghost use Rattle.sre_match.specs.Search.{Walk, walk_code, place_of, fits_or_past};
 
     ghost Value = { Walk };
 
     ghost coded = { walk_code };
 
-    ghost view = { λ w. record { search = w.request; standing = record { place = w.place; advance = w.advance }; span = w.state } };
+    ghost view = { λ w. record { search = w.request; standing = record { place = place_of w.cursor w.request.start; advance = w.advance }; span = w.state } };
 
-    ghost invariant = { λ w. w.request.whole ≡ false };
+    ghost invariant = { λ w. (w.request.whole ≡ false) × (fits_or_past (S.fits w.request.subject) (length w.request.subject) w.request.start w.cursor ≡ true) };
 }
 
 impl<'c, S: StrDrive> SearchIter<'c, S> {
@@ -49,7 +49,7 @@ impl<'c, S: StrDrive> SearchIter<'c, S> {
         ensures span { result.span ≡ record { start = 0; stop = 0; marks = [] } }
     {
         SearchIter {
-            place: request.start,
+            cursor: request.first_cursor(),
             request,
             state: State::new(alloc),
             trail: new_trail(alloc),
@@ -57,12 +57,13 @@ impl<'c, S: StrDrive> SearchIter<'c, S> {
         }
     }
 
-    /// Whether there is one more span, which the state then holds.
+    /// Whether there is one more span, which the state then has.
     ///
     /// # Errors
     ///
-    /// `NoMemory`. The walk stands where it stood, and has the span that it had.
+    /// `NoMemory`. The walk is where it was, and has the span that it had.
     pub fn next<L: Ledger>(&mut self, steps: &mut Steps<L>) -> Result<bool, MatchError>
+        requires { S.counts L.name }
         ensures found { IfOk result (λ found. if_found found self.new.span ≡ next_span self.old.search.tree self.old.search.subject self.old.standing.place self.old.standing.advance false) }
         ensures moved { OnOk result (self.new.standing ≡ stands_behind (next_span self.old.search.tree self.old.search.subject self.old.standing.place self.old.standing.advance false) self.old.standing) }
         ensures refused { OnErr result (self.new.standing ≡ self.old.standing) }
@@ -70,17 +71,15 @@ impl<'c, S: StrDrive> SearchIter<'c, S> {
         ensures search { self.new.search ≡ self.old.search }
         ensures cost { steps.new ≤ steps.old + next_reads self.old.search.tree self.old.search.subject self.old.standing.place self.old.standing.advance false }
     {
-        match next_ends(
-            &self.request,
-            &mut self.trail,
-            self.place,
-            self.advance,
-            steps,
-        )? {
+        let cursor = match self.cursor {
+            None => return Ok(false),
+            Some(cursor) => cursor,
+        };
+        match next_ends(&self.request, &mut self.trail, &cursor, self.advance, steps)? {
             None => Ok(false),
             Some((start, stop)) => {
-                self.place = stop;
-                self.advance = start == stop;
+                self.cursor = Some(stop);
+                self.advance = start.place == stop.place;
                 self.state.hold(start, stop, &mut self.trail.marks);
                 Ok(true)
             }

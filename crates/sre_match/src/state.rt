@@ -1,14 +1,15 @@
 //! The last match.
 
 ghost use Rattle.std.specs.Prelude.{◌≡◌, ◌≢◌, ◌≤◌, ◌+◌, [], true, Ok, IfOk, option_map};
+ghost use Rattle.sre_match.specs.Captures.{captures};
 ghost use Rattle.sre_match.specs.Matches.{if_found, span_at, first_allowed, reads, next_span, next_reads};
 
 use crate::error::MatchError;
-use crate::marks::{Closed, Marks};
+use crate::marks::{Capture, Marks};
+use crate::matcher::search::{first_end, next_ends};
+use crate::matcher::trail::new_trail;
 use crate::request::Request;
-use crate::search::{first_end, next_ends};
-use crate::trail::new_trail;
-use crate::view::StrDrive;
+use crate::view::{StrDrive, StringCursor};
 use py_base::Steps;
 use std::alloc::Global;
 use std::marker::Model;
@@ -18,8 +19,8 @@ use std::sync::ledger::Ledger;
 #[derive(Debug, Drop)]
 pub struct State {
     alloc: Global,
-    start: usize,
-    stop: usize,
+    start: StringCursor,
+    stop: StringCursor,
     marks: Marks,
 }
 
@@ -28,7 +29,7 @@ impl Model for State {
 
     ghost Value = { Span };
 
-    ghost view = { λ s. record { start = s.start; stop = s.stop; marks = s.marks } };
+    ghost view = { λ s. record { start = s.start.place; stop = s.stop.place; marks = s.marks } };
 }
 
 impl State {
@@ -38,22 +39,22 @@ impl State {
     {
         State {
             alloc,
-            start: 0,
-            stop: 0,
+            start: StringCursor::beginning(),
+            stop: StringCursor::beginning(),
             marks: Marks::new(alloc),
         }
     }
 
-    // Holds a match with these marks, and leaves the room of those that it held.
-    pub(crate) fn hold(&mut self, start: usize, stop: usize, marks: &mut Vec<Closed>)
-        ensures { self.new ≡ record { start = start; stop = stop; marks = marks.old.items } }
+    // Takes a match with these captures, and leaves the room of those that it had.
+    pub(crate) fn hold(&mut self, start: StringCursor, stop: StringCursor, marks: &mut Vec<Capture>)
+        ensures { self.new ≡ record { start = start.place; stop = stop.place; marks = captures marks.old.items } }
     {
         self.start = start;
         self.stop = stop;
         self.marks.swap(marks);
     }
 
-    /// Whether there is an allowed outcome at the request's start. The state then holds the first one.
+    /// Whether there is an allowed outcome at the request's start. The state then has the first one.
     ///
     /// # Errors
     ///
@@ -63,13 +64,17 @@ impl State {
         request: &Request<'_, S>,
         steps: &mut Steps<L>,
     ) -> Result<bool, MatchError>
+        requires { S.counts L.name }
         ensures found { IfOk result (λ found. if_found found self.new ≡ option_map (span_at request.now.start) (first_allowed request.now.tree request.now.subject request.now.start request.now.advance request.now.whole)) }
         ensures kept { result ≢ Ok true → self.new ≡ self.old }
         ensures cost { steps.new ≤ steps.old + reads request.now.tree request.now.subject request.now.start request.now.advance request.now.whole }
     {
         let mut trail = new_trail(self.alloc);
-        let start = request.start;
-        match first_end(request, &mut trail, start, request.must_advance, steps)? {
+        let start = match request.first_cursor() {
+            None => return Ok(false),
+            Some(start) => start,
+        };
+        match first_end(request, &mut trail, &start, request.must_advance, steps)? {
             None => Ok(false),
             Some(stop) => {
                 self.hold(start, stop, &mut trail.marks);
@@ -88,18 +93,17 @@ impl State {
         request: &Request<'_, S>,
         steps: &mut Steps<L>,
     ) -> Result<bool, MatchError>
+        requires { S.counts L.name }
         ensures found { IfOk result (λ found. if_found found self.new ≡ next_span request.now.tree request.now.subject request.now.start request.now.advance request.now.whole) }
         ensures kept { result ≢ Ok true → self.new ≡ self.old }
         ensures cost { steps.new ≤ steps.old + next_reads request.now.tree request.now.subject request.now.start request.now.advance request.now.whole }
     {
         let mut trail = new_trail(self.alloc);
-        match next_ends(
-            request,
-            &mut trail,
-            request.start,
-            request.must_advance,
-            steps,
-        )? {
+        let from = match request.first_cursor() {
+            None => return Ok(false),
+            Some(from) => from,
+        };
+        match next_ends(request, &mut trail, &from, request.must_advance, steps)? {
             None => Ok(false),
             Some((start, stop)) => {
                 self.hold(start, stop, &mut trail.marks);
@@ -112,14 +116,14 @@ impl State {
     pub fn start(&self) -> usize
         ensures { result ≡ self.now.start }
     {
-        self.start
+        self.start.place
     }
 
     /// The place where the match ends.
     pub fn position(&self) -> usize
         ensures { result ≡ self.now.stop }
     {
-        self.stop
+        self.stop.place
     }
 
     /// The groups of the match.

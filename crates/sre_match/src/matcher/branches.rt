@@ -1,0 +1,228 @@
+//! Turns of the matcher at the alternatives of a branch.
+
+ghost use Rattle.sre_match.specs.Captures.{captures};
+ghost use Rattle.sre_match.specs.Cursor.{Cursor};
+ghost use Rattle.sre_match.specs.Fits.{Fit, Placed, Stays};
+ghost use Rattle.std.specs.Prelude.{◌≡◌, ◌≢◌, ◌+◌, ◌≤◌, ◌<◌, ℕ, Bool, List, [], ◌∷◌, ◌++◌, OnOk, true, false, slice_get, length};
+ghost use Rattle.sre_match.specs.Machine.{run, part_next, to_try, Sound, Gives, StaysSound};
+ghost use Rattle.sre_match.specs.Attempts.{Attempt, after, Marks};
+ghost use Rattle.sre_match.specs.Paths.{all_paths};
+ghost use Rattle.sre_match.specs.Anchors as places;
+ghost use Rattle.sre_match.specs.Singles as singles;
+ghost use Rattle.sre_match.specs.Branches as spec;
+ghost use Rattle.sre_code.specs.TreeView.{node_of, trees_of};
+
+use crate::matcher::choices::keep;
+use crate::matcher::singles::{is_single, meets};
+use crate::matcher::subject::{Subject, unit_at};
+use crate::matcher::trail::{ChoiceKind, Current, Part, Trail, Turn};
+use crate::view::StrDrive;
+use py_base::Steps;
+use sre_code::{Node, Tree};
+use std::alloc::AllocError;
+use std::sync::ledger::Ledger;
+
+// Whether there is a unit and it meets a node that is one unit.
+fn is_met(node: &Node, unit: Option<u32>) -> bool
+    ensures { result ≡ places.is_met (singles.meets (node_of node.now)) unit }
+{
+    match unit {
+        Some(c) => meets(node, c),
+        None => false,
+    }
+}
+
+// Whether an alternative begins with one unit.
+fn begins_single(t: &Tree) -> bool
+    ensures { result ≡ spec.begins_single t.now }
+{
+    match t.nodes() {
+        [] => false,
+        [node, ..] => is_single(node),
+    }
+}
+
+// Whether an alternative begins with one unit, and no unit is there that meets it.
+fn is_out(t: &Tree, unit: Option<u32>) -> bool
+    ensures { result ≡ spec.is_out t.now unit }
+{
+    match t.nodes() {
+        [] => false,
+        [node, ..] => is_single(node) && !is_met(node, unit),
+    }
+}
+
+// The alternatives from the first one on that is not out.
+fn left_of<'t>(trees: &'t [Tree], unit: Option<u32>) -> &'t [Tree]
+    ensures { result.now ≡ spec.left_of trees.entry.now unit }
+{
+    let mut left = trees;
+    while let [t, more @ ..] = left {
+        if !is_out(t, unit) {
+            return left;
+        }
+        left = more;
+    }
+    left
+}
+
+// Alternatives for later, of which a last one is its nodes.
+#[tactic(auto, using(crate::proofs::TurnLemmas::alone))]
+fn later<'t>(more: &'t [Tree]) -> Part<'t>
+    requires { more.now ≢ [] }
+    ensures { (s : List ℕ) (p : ℕ) (m : Marks) → part_next result s p m ≡ all_paths (trees_of more.entry.now) s p m }
+{
+    match more {
+        [t] => Part::Nodes(t.nodes()),
+        _ => Part::Trees(more),
+    }
+}
+
+// Keeps alternatives for later, where there are some.
+fn keep_later<'t>(
+    more: &'t [Tree],
+    current: &Current<'t>,
+    trail: &mut Trail<'t>,
+) -> Result<(), AllocError>
+    requires sound { Sound trail.old }
+    requires deep { current.now.rest ≤ length trail.old.frames.items }
+    ensures marks { OnOk result ((captures trail.new.marks.items) ≡ (captures trail.old.marks.items)) }
+    ensures frames { OnOk result (trail.new.frames.items ≡ trail.old.frames.items) }
+    ensures tried { OnOk result ((s : List ℕ) (xs : List Attempt) → to_try s trail.new xs ≡ to_try s trail.old (xs ++ after (spec.each_paths more.entry.now s current.now.cursor.place (captures trail.old.marks.items)) (run trail.old.frames.items current.now.rest s))) }
+    ensures sound { OnOk result (Sound trail.new) }
+    ensures fit { OnOk result ((ok : Cursor → Bool) → Placed ok current.now trail.old → Fit ok trail.new) }
+{
+    if more.is_empty() {
+        return Ok(());
+    }
+    keep(
+        trail,
+        ChoiceKind::Try,
+        later(more),
+        current.rest,
+        current.cursor,
+    )
+}
+
+// An alternative is next, with more of them for later.
+fn chosen_turn<'t>(
+    t: &'t Tree,
+    more: &'t [Tree],
+    current: &mut Current<'t>,
+    trail: &mut Trail<'t>,
+) -> Turn
+    requires sound { Sound trail.old }
+    requires deep { current.old.rest ≤ length trail.old.frames.items }
+    ensures gives { (s : List ℕ) (n : ℕ) → Gives result current.new s trail.new n n (to_try s trail.old (after (spec.each_paths (t.now ∷ more.entry.now) s current.old.cursor.place (captures trail.old.marks.items)) (run trail.old.frames.items current.old.rest s))) }
+    ensures sound { StaysSound result current.new trail.new }
+    ensures placed { (ok : Cursor → Bool) → Placed ok current.old trail.old → Stays result ok current.new trail.new }
+{
+    let Ok(()) = keep_later(more, current, trail) else {
+        return Turn::Full;
+    };
+    current.part = Part::Nodes(t.nodes());
+    Turn::Go
+}
+
+// An alternative that begins with a unit that is met is next, after that unit.
+fn met_turn<'t, S: StrDrive>(
+    t: &'t Tree,
+    more: &'t [Tree],
+    s: &Subject<'_, S>,
+    current: &mut Current<'t>,
+    trail: &mut Trail<'t>,
+) -> Turn
+    requires within { current.old.cursor.place < length s.now }
+    requires sound { Sound trail.old }
+    requires deep { current.old.rest ≤ length trail.old.frames.items }
+    requires placed { Placed (S.fits s.now) current.old trail.old }
+    ensures gives { (n : ℕ) → spec.begins_single t.now ≡ true → spec.is_out t.now (slice_get s.now current.old.cursor.place) ≡ false → Gives result current.new s.now trail.new n (n + 1) (to_try s.now trail.old (after (spec.each_paths (t.now ∷ more.entry.now) s.now current.old.cursor.place (captures trail.old.marks.items)) (run trail.old.frames.items current.old.rest s.now))) }
+    ensures sound { StaysSound result current.new trail.new }
+    ensures placed { Stays result (S.fits s.now) current.new trail.new }
+{
+    let Ok(()) = keep_later(more, current, trail) else {
+        return Turn::Full;
+    };
+    if let [_, following @ ..] = t.nodes() {
+        current.part = Part::Nodes(following);
+        s.skip(&mut current.cursor, 1);
+    }
+    Turn::Go
+}
+
+// The alternatives after one that is out.
+fn others_turn<'t>(
+    trees: &'t [Tree],
+    unit: Option<u32>,
+    current: &mut Current<'t>,
+    trail: &mut Trail<'t>,
+) -> Turn
+    requires sound { Sound trail.old }
+    requires deep { current.old.rest ≤ length trail.old.frames.items }
+    ensures gives { (s : List ℕ) (n : ℕ) → unit ≡ slice_get s current.old.cursor.place → Gives result current.new s trail.new n n (to_try s trail.old (after (spec.each_paths trees.entry.now s current.old.cursor.place (captures trail.old.marks.items)) (run trail.old.frames.items current.old.rest s))) }
+    ensures sound { StaysSound result current.new trail.new }
+    ensures placed { (ok : Cursor → Bool) → Placed ok current.old trail.old → Stays result ok current.new trail.new }
+{
+    match left_of(trees, unit) {
+        [] => Turn::Fail,
+        [t, more @ ..] => chosen_turn(t, left_of(more, unit), current, trail),
+    }
+}
+
+// Alternatives are next, of which the first one begins with a unit.
+fn read_turn<'t, S: StrDrive, L: Ledger>(
+    t: &'t Tree,
+    more: &'t [Tree],
+    s: &Subject<'_, S>,
+    current: &mut Current<'t>,
+    trail: &mut Trail<'t>,
+    steps: &mut Steps<L>,
+) -> Turn
+    requires begins { spec.begins_single t.now ≡ true }
+    requires sound { Sound trail.old }
+    requires deep { current.old.rest ≤ length trail.old.frames.items }
+    requires placed { Placed (S.fits s.now) current.old trail.old }
+    requires counter { S.counts L.name }
+    ensures gives { Gives result current.new s.now trail.new steps.old steps.new (to_try s.now trail.old (after (spec.each_paths (t.now ∷ more.entry.now) s.now current.old.cursor.place (captures trail.old.marks.items)) (run trail.old.frames.items current.old.rest s.now))) }
+    ensures sound { StaysSound result current.new trail.new }
+    ensures placed { Stays result (S.fits s.now) current.new trail.new }
+{
+    let unit = unit_at(s, &current.cursor, steps);
+    if is_out(t, unit) {
+        others_turn(more, unit, current, trail)
+    } else {
+        met_turn(t, left_of(more, unit), s, current, trail)
+    }
+}
+
+/// Alternatives are next. Where the first one begins with a unit, that is read once, and those that it
+/// rules out are passed over.
+pub fn trees_turn<'t, S: StrDrive, L: Ledger>(
+    trees: &'t [Tree],
+    s: &Subject<'_, S>,
+    current: &mut Current<'t>,
+    trail: &mut Trail<'t>,
+    steps: &mut Steps<L>,
+) -> Turn
+    requires sound { Sound trail.old }
+    requires deep { current.old.rest ≤ length trail.old.frames.items }
+    requires placed { Placed (S.fits s.now) current.old trail.old }
+    requires counter { S.counts L.name }
+    ensures gives { Gives result current.new s.now trail.new steps.old steps.new (to_try s.now trail.old (after (all_paths (trees_of trees.now) s.now current.old.cursor.place (captures trail.old.marks.items)) (run trail.old.frames.items current.old.rest s.now))) }
+    ensures sound { StaysSound result current.new trail.new }
+    ensures placed { Stays result (S.fits s.now) current.new trail.new }
+{
+    match trees {
+        [] => {
+            current.part = Part::Skip;
+            Turn::Go
+        }
+        [t, more @ ..] => {
+            if begins_single(t) {
+                read_turn(t, more, s, current, trail, steps)
+            } else {
+                chosen_turn(t, more, current, trail)
+            }
+        }
+    }
+}

@@ -1,0 +1,280 @@
+//! The first allowed outcome of a tree at a place.
+
+ghost use Rattle.sre_match.specs.Captures.{captures};
+ghost use Rattle.sre_match.specs.Cursor.{Cursor};
+ghost use Rattle.sre_match.specs.Fits.{task_fits, Fit, Placed, Stays, Remains};
+ghost use Rattle.std.specs.Prelude.{◌≡◌, ◌+◌, ◌≤◌, ℕ, Bool, true, List, [], None, IfOk, IfSome, option_map, length};
+ghost use Rattle.sre_match.specs.Machine.{run, part_next, task_next, to_try, ahead_of, Sound, Gives, StaysSound, Leaves, Leads, Lands, outcome_at};
+ghost use Rattle.sre_match.specs.Attempts.{after, chosen, cost_of};
+ghost use Rattle.sre_match.specs.Paths.{paths};
+ghost use Rattle.sre_code.specs.TreeView.{tree_of};
+ghost use Rattle.sre_match.specs.Matches.{is_allowed, first_allowed, reads};
+
+use crate::matcher::branches::trees_turn;
+use crate::matcher::choices::go_back;
+use crate::matcher::frames::{drop_frame, frame_in};
+use crate::matcher::iterations::{once_turn, optional_turn, rep_turn};
+use crate::matcher::nodes::nodes_turn;
+use crate::matcher::singles::{is_met, is_single};
+use crate::matcher::subject::Subject;
+use crate::matcher::trail::{Current, Part, Task, Trail, Turn, clear};
+use crate::matcher::turns::{back_turn, end_group_turn, leave};
+use crate::view::{StrDrive, StringCursor};
+use py_base::Steps;
+use sre_code::{Node, Tree};
+use std::alloc::AllocError;
+use std::sync::ledger::Ledger;
+
+/// Where a turn leads.
+#[derive(Clone, Copy, Drop)]
+pub enum Progress {
+    /// There is more to do.
+    More,
+    /// The first allowed outcome ends here.
+    Found,
+    /// There is none.
+    Nothing,
+    /// Out of memory.
+    NoMemory,
+}
+
+// Whether an end is allowed.
+fn is_allowed(len: usize, start: usize, advance: bool, whole: bool, end: usize) -> bool
+    ensures { (s : List ℕ) → length s ≡ len → result ≡ is_allowed s start advance whole end }
+{
+    (!advance || end != start) && (!whole || end == len)
+}
+
+// What a frame does is next.
+fn task_turn<'t, S: StrDrive, L: Ledger>(
+    task: Task<'t>,
+    s: &Subject<'_, S>,
+    current: &mut Current<'t>,
+    trail: &mut Trail<'t>,
+    steps: &mut Steps<L>,
+) -> Turn
+    requires sound { Sound trail.old }
+    requires deep { current.old.rest ≤ length trail.old.frames.items }
+    requires task { task_fits (S.fits s.now) task ≡ true }
+    requires placed { Placed (S.fits s.now) current.old trail.old }
+    requires counter { S.counts L.name }
+    ensures gives { Gives result current.new s.now trail.new steps.old steps.new (to_try s.now trail.old (after (task_next task.entry s.now current.old.cursor.place (captures trail.old.marks.items)) (run trail.old.frames.items current.old.rest s.now))) }
+    ensures sound { StaysSound result current.new trail.new }
+    ensures placed { Stays result (S.fits s.now) current.new trail.new }
+{
+    match task {
+        Task::Then(nodes) => nodes_turn(nodes, s, current, trail, steps),
+        Task::Mandatory {
+            greedy,
+            left,
+            body,
+            room,
+        } => rep_turn(body, greedy, left, room, current, trail),
+        Task::Again {
+            greedy,
+            body,
+            room,
+            began,
+        } => optional_turn(body, greedy, room, Some(began), current, trail),
+        Task::EndGroup(group, start) => end_group_turn(group, start, current, trail),
+    }
+}
+
+// The frame after is next, or the end.
+fn rest_turn<'t, S: StrDrive, L: Ledger>(
+    s: &Subject<'_, S>,
+    current: &mut Current<'t>,
+    trail: &mut Trail<'t>,
+    steps: &mut Steps<L>,
+) -> Turn
+    requires sound { Sound trail.old }
+    requires deep { current.old.rest ≤ length trail.old.frames.items }
+    requires placed { Placed (S.fits s.now) current.old trail.old }
+    requires counter { S.counts L.name }
+    ensures gives { Gives result current.new s.now trail.new steps.old steps.new (to_try s.now trail.old (run trail.old.frames.items current.old.rest s.now current.old.cursor.place (captures trail.old.marks.items))) }
+    ensures sound { StaysSound result current.new trail.new }
+    ensures placed { Stays result (S.fits s.now) current.new trail.new }
+{
+    let rest = current.rest;
+    if rest == 0 {
+        if trail.levels == 0 {
+            return Turn::Done;
+        }
+        return leave(current, trail);
+    }
+    let frame = frame_in(&trail.frames, rest);
+    drop_frame(trail, rest);
+    current.rest = frame.rest;
+    task_turn(frame.task, s, current, trail, steps)
+}
+
+// What is next is done or taken apart.
+fn take_turn<'t, S: StrDrive, L: Ledger>(
+    s: &Subject<'_, S>,
+    current: &mut Current<'t>,
+    trail: &mut Trail<'t>,
+    steps: &mut Steps<L>,
+) -> Turn
+    requires sound { Sound trail.old }
+    requires deep { current.old.rest ≤ length trail.old.frames.items }
+    requires placed { Placed (S.fits s.now) current.old trail.old }
+    requires counter { S.counts L.name }
+    ensures gives { Gives result current.new s.now trail.new steps.old steps.new (ahead_of current.old s.now trail.old) }
+    ensures sound { StaysSound result current.new trail.new }
+    ensures placed { Stays result (S.fits s.now) current.new trail.new }
+{
+    match current.part {
+        Part::Skip => rest_turn(s, current, trail, steps),
+        Part::Nodes(nodes) => {
+            if nodes.is_empty() {
+                rest_turn(s, current, trail, steps)
+            } else {
+                nodes_turn(nodes, s, current, trail, steps)
+            }
+        }
+        Part::Trees(trees) => trees_turn(trees, s, current, trail, steps),
+        Part::Back(count) => back_turn(count, s, current, trail),
+        Part::Once(body, room) => once_turn(body, room, s, current, trail, steps),
+    }
+}
+
+// Goes on with the newest choice.
+fn retry<'t>(current: &mut Current<'t>, trail: &mut Trail<'t>) -> Progress
+    requires { Sound trail.old }
+    ensures leads { (ok : ℕ → Bool) (s : List ℕ) (n : ℕ) → Leads result current.new ok s trail.new n n (to_try s trail.old []) }
+    ensures lands { Lands result current.new trail.new }
+    ensures placed { (ok : Cursor → Bool) → Fit ok trail.old → Remains result ok current.new trail.new }
+{
+    if go_back(current, trail) {
+        Progress::More
+    } else {
+        Progress::Nothing
+    }
+}
+
+// A turn, and where it leads: on, back to the newest choice, or to an outcome.
+fn next_turn<'t, S: StrDrive, L: Ledger>(
+    s: &Subject<'_, S>,
+    current: &mut Current<'t>,
+    trail: &mut Trail<'t>,
+    start: usize,
+    advance: bool,
+    whole: bool,
+    steps: &mut Steps<L>,
+) -> Progress
+    requires sound { Sound trail.old }
+    requires deep { current.old.rest ≤ length trail.old.frames.items }
+    requires placed { Placed (S.fits s.now) current.old trail.old }
+    requires counter { S.counts L.name }
+    ensures leads { Leads result current.new (is_allowed s.now start advance whole) s.now trail.new steps.old steps.new (ahead_of current.old s.now trail.old) }
+    ensures lands { Lands result current.new trail.new }
+    ensures placed { Remains result (S.fits s.now) current.new trail.new }
+{
+    match take_turn(s, current, trail, steps) {
+        Turn::Go => Progress::More,
+        Turn::Fail => retry(current, trail),
+        Turn::Done => {
+            if is_allowed(s.count(), start, advance, whole, current.cursor.place) {
+                Progress::Found
+            } else {
+                retry(current, trail)
+            }
+        }
+        Turn::Full => Progress::NoMemory,
+    }
+}
+
+// Where a tree begins at a cursor. A first node that is one unit is read at once; none says that it is
+// not met.
+fn first_current<'t, S: StrDrive, L: Ledger>(
+    nodes: &'t [Node],
+    s: &Subject<'_, S>,
+    cursor: &StringCursor,
+    steps: &mut Steps<L>,
+) -> Option<Current<'t>>
+    requires fits { S.fits s.now cursor.now ≡ true }
+    requires counter { S.counts L.name }
+    ensures begins { IfSome result (λ current. Leaves steps.old steps.new (paths (tree_of nodes.entry.now) s.now cursor.now.place []) (part_next current.part s.now current.cursor.place [])) }
+    ensures rest { IfSome result (λ current. current.rest ≡ 0) }
+    ensures fits { IfSome result (λ current. S.fits s.now current.cursor ≡ true) }
+    ensures fails { result ≡ None → Leaves steps.old steps.new (paths (tree_of nodes.entry.now) s.now cursor.now.place []) [] }
+{
+    let whole = Current {
+        part: Part::Nodes(nodes),
+        rest: 0,
+        cursor: *cursor,
+    };
+    match nodes {
+        [] => Some(whole),
+        [node, more @ ..] => {
+            if !is_single(node) {
+                return Some(whole);
+            }
+            if !is_met(node, s, cursor, steps) {
+                return None;
+            }
+            let mut following = *cursor;
+            s.skip(&mut following, 1);
+            Some(Current {
+                part: Part::Nodes(more),
+                rest: 0,
+                cursor: following,
+            })
+        }
+    }
+}
+
+// The end of the first allowed outcome of what is to be tried. The trail then has its marks.
+fn run_from<'t, S: StrDrive, L: Ledger>(
+    current: Current<'t>,
+    trail: &mut Trail<'t>,
+    s: &Subject<'_, S>,
+    start: usize,
+    advance: bool,
+    whole: bool,
+    steps: &mut Steps<L>,
+) -> Result<Option<StringCursor>, AllocError>
+    requires sound { Sound trail.old }
+    requires deep { current.rest ≤ length trail.old.frames.items }
+    requires placed { Placed (S.fits s.now) current trail.old }
+    requires counter { S.counts L.name }
+    ensures fits { IfOk result (λ o. IfSome o (λ c. S.fits s.now c ≡ true)) }
+    ensures found { IfOk result (λ o. option_map (outcome_at (captures trail.new.marks.items)) o ≡ chosen (is_allowed s.now start advance whole) (ahead_of current.entry s.now trail.old)) }
+    ensures cost { steps.new ≤ steps.old + cost_of (is_allowed s.now start advance whole) (ahead_of current.entry s.now trail.old) }
+{
+    let mut current = current;
+    for _turn in 0..u64::MAX {
+        match next_turn(s, &mut current, trail, start, advance, whole, steps) {
+            Progress::More => {}
+            Progress::Found => return Ok(Some(current.cursor)),
+            Progress::Nothing => return Ok(None),
+            Progress::NoMemory => return Err(AllocError),
+        }
+    }
+    Err(AllocError)
+}
+
+/// The end of the first allowed outcome of a tree at a place. The trail then has its marks.
+pub fn find_at<'t, S: StrDrive, L: Ledger>(
+    trail: &mut Trail<'t>,
+    tree: &'t Tree,
+    s: &Subject<'_, S>,
+    start: &StringCursor,
+    advance: bool,
+    whole: bool,
+    steps: &mut Steps<L>,
+) -> Result<Option<StringCursor>, AllocError>
+    requires fits { S.fits s.now start.now ≡ true }
+    requires counter { S.counts L.name }
+    ensures fits { IfOk result (λ o. IfSome o (λ c. S.fits s.now c ≡ true)) }
+    ensures found { IfOk result (λ o. option_map (outcome_at (captures trail.new.marks.items)) o ≡ first_allowed tree.now s.now start.now.place advance whole) }
+    ensures cost { steps.new ≤ steps.old + reads tree.now s.now start.now.place advance whole }
+{
+    match first_current(tree.nodes(), s, start, steps) {
+        None => Ok(None),
+        Some(current) => {
+            clear(trail);
+            run_from(current, trail, s, start.place, advance, whole, steps)
+        }
+    }
+}

@@ -1,0 +1,102 @@
+//! Bytes whose reads one counter alone can count, and a search over them.
+
+ghost use Rattle.std.specs.Prelude.{◌≡◌, ◌≤◌, ◌+◌, length};
+ghost use Rattle.sre_match.specs.Cursor.{is_within};
+ghost use Rattle.sre_match.specs.CursorLemmas.{within_list, within_cut};
+ghost use Rattle.sre_match.specs.Matches.{next_reads};
+
+use crate::error::MatchError;
+use crate::request::Request;
+use crate::state::State;
+use crate::view::{StrDrive, StringCursor};
+use py_base::Steps;
+use std::marker::{Model, PhantomData};
+use std::sync::ledger::Ledger;
+
+/// Bytes, each of which is a unit, and whose reads the counter of the ledger K alone can count.
+#[derive(Drop)]
+pub struct MeteredView<'s, K: Ledger> {
+    all: &'s [u8],
+    of: PhantomData<K>,
+}
+
+impl<'s, K: Ledger> Model for MeteredView<'s, K> {
+    ghost use Rattle.std.specs.Prelude.{List, ℕ};
+
+    ghost Value = { List ℕ };
+
+    ghost view = { λ v. v.all.now };
+}
+
+impl<'s, K: Ledger> MeteredView<'s, K> {
+    /// A view of these bytes.
+    pub fn new(bytes: &'s [u8]) -> MeteredView<'s, K>
+        ensures { result ≡ bytes.entry.now }
+    {
+        MeteredView {
+            all: bytes,
+            of: PhantomData,
+        }
+    }
+}
+
+impl<'s, K: Ledger> StrDrive for MeteredView<'s, K> {
+    type Part = &'s [u8];
+
+    ghost units = { λ v. v };
+
+    ghost fits = { is_within };
+
+    ghost counts = { λ n. n ≡ K.name };
+
+    ghost part_units = { λ p. p.now };
+
+    ghost within = { within_list };
+
+    ghost cut_fits = { within_cut };
+
+    fn count(&self) -> usize {
+        self.all.len()
+    }
+
+    fn create_cursor(&self, n: usize) -> StringCursor {
+        StringCursor::new(n, n)
+    }
+
+    fn peek<L: Ledger>(&self, cursor: &StringCursor, steps: &mut Steps<L>) -> u32 {
+        steps.tick();
+        let bytes = self.all;
+        bytes[cursor.position()] as u32
+    }
+
+    fn skip(&self, cursor: &mut StringCursor, n: usize) {
+        let _bytes = self.all;
+        *cursor = StringCursor::new(cursor.position() + n, cursor.offset());
+    }
+
+    fn back_peek<L: Ledger>(&self, cursor: &StringCursor, steps: &mut Steps<L>) -> u32 {
+        steps.tick();
+        let bytes = self.all;
+        bytes[cursor.position() - 1] as u32
+    }
+
+    fn back_skip(&self, cursor: &mut StringCursor, n: usize) {
+        *cursor = StringCursor::new(cursor.position() - n, cursor.offset());
+    }
+
+    fn slice(&self, from: &StringCursor, to: &StringCursor) -> &'s [u8] {
+        &self.all[from.position()..to.position()]
+    }
+}
+
+/// The search of `State::search` over bytes that no counter but this one can count: `cost` is then a bound
+/// on the bytes that are read.
+pub fn metered_search<'s, L: Ledger>(
+    state: &mut State,
+    request: &Request<'_, MeteredView<'s, L>>,
+    steps: &mut Steps<L>,
+) -> Result<bool, MatchError>
+    ensures cost { steps.new ≤ steps.old + next_reads request.now.tree request.now.subject request.now.start request.now.advance request.now.whole }
+{
+    state.search(request, steps)
+}
