@@ -11,7 +11,7 @@ returns-in_default-word_of-clause-malformed c = λ was words small e.
     let u = c.loop-rest.invariant.only words small e in
     let h = strip_prefix_is Decides-eqb c.loop-rest.left.now (32 ∷ []) c.strip_prefix.result c.strip_prefix.ensures.cases in
     let some : c.loop-rest.left.now ≡ 32 ∷ c.in-Some.rest.now = rw c.in-Some.is at h in
-    let f = first_number c.loop-rest.left.now c.in-Some.rest.now c.split_at_blank.result.0.now c.split_at_blank.result.1.now u.0 u.1 u.2 some c.split_at_blank.ensures.all c.split_at_blank.ensures.first c.split_at_blank.ensures.rest in
+    let f = first_number c.loop-rest.left.now c.in-Some.rest.now c.split_at_space.result.0.now c.split_at_space.result.1.now u.0 u.1 u.2 some c.split_at_space.ensures.all c.split_at_space.ensures.first c.split_at_space.ensures.rest in
     c.in_default-word_of.ensures.none f.number f.small f.word_is
 
 pub loop-rest-preserved : goal.loop-rest-preserved
@@ -21,11 +21,11 @@ loop-rest-preserved c =
     let new : c.push.new.self.items ≡ c.loop-rest.found.items ++ c.in-Some-word_of.number ∷ [] = c.in_ok-push.ensures.items in
     let fits : c.in-Some-word_of.number < 2 ^ 32 = omega arith in
     record {
-      spelled = one_more_number c.args.bytes.now c.loop-rest.left.now c.in-Some.rest.now c.split_at_blank.result.0.now c.split_at_blank.result.1.now c.loop-rest.found.items c.push.new.self.items c.in-Some-word_of.number c.loop-rest.invariant.spelled some c.split_at_blank.ensures.all c.in-Some-word_of.ensures.found new;
+      spelled = one_more_number c.args.bytes.now c.loop-rest.left.now c.in-Some.rest.now c.split_at_space.result.0.now c.split_at_space.result.1.now c.loop-rest.found.items c.push.new.self.items c.in-Some-word_of.number c.loop-rest.invariant.spelled some c.split_at_space.ensures.all c.in-Some-word_of.ensures.found new;
       small = rw new (All-push (λ w. w < 2 ^ 32) c.loop-rest.found.items c.in-Some-word_of.number c.loop-rest.invariant.small fits);
       only = λ words small e.
           let u = c.loop-rest.invariant.only words small e in
-          let f = first_number c.loop-rest.left.now c.in-Some.rest.now c.split_at_blank.result.0.now c.split_at_blank.result.1.now u.0 u.1 u.2 some c.split_at_blank.ensures.all c.split_at_blank.ensures.first c.split_at_blank.ensures.rest in
+          let f = first_number c.loop-rest.left.now c.in-Some.rest.now c.split_at_space.result.0.now c.split_at_space.result.1.now u.0 u.1 u.2 some c.split_at_space.ensures.all c.split_at_space.ensures.first c.split_at_space.ensures.rest in
           (f.more, f.words, f.after_is);
     }
 
