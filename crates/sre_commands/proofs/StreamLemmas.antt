@@ -1,9 +1,9 @@
 -- One call on known bytes after another, and counts that rise.
-use Rattle.std.proofs.Common.{ℕ, ◌≡◌, ◌-◌, ◌≤◌, List, [], ◌++◌, length, take, drop, Option, Some, None, refl, sym, ap, ◌∙◌, append_assoc, arith}
+use Rattle.std.proofs.Common.{ℕ, ◌≡◌, ◌-◌, ◌<◌, ◌≤◌, List, [], ◌++◌, length, take, drop, Option, Some, None, refl, sym, ap, ◌∙◌, append_assoc, arith}
 use Rattle.std.specs.Io.KnownBytes.{Consumes, IsAtEnd, Appends, Keeps}
-use Rattle.std.proofs.lemmas.List.{append-nil, length-append, length-drop, take_all}
+use Rattle.std.proofs.lemmas.List.{append-nil, length-append, length-drop, length-take, take_all}
 use Rattle.py_base.specs.Stream.Faults.{Rose}
-use Rattle.sre_commands.specs.Causes.{HasAtMost}
+use Rattle.sre_commands.specs.Streams.{Reading, TookAtMost, TookMoreThan, ReadWhole}
 
 pub Consumes-none : (a : Option (List ℕ)) → Consumes a a []
 Consumes-none None = tt
@@ -39,10 +39,6 @@ pub Consumes-whole : (xs : List ℕ) (b : Option (List ℕ)) (bytes : List ℕ) 
 Consumes-whole xs None bytes p end = absurd p
 Consumes-whole xs (Some ys) bytes p end = p ∙ ap (λ (z : List ℕ). bytes ++ z) end ∙ append-nil bytes
 
-pub HasAtMost-from_read : (most : ℕ) (a b : Option (List ℕ)) (bytes : List ℕ) → Consumes a b bytes → IsAtEnd b → length bytes ≤ most → HasAtMost most a
-HasAtMost-from_read most None b bytes p end le = tt
-HasAtMost-from_read most (Some xs) b bytes p end le = let same : length xs ≡ length bytes = ap length (Consumes-whole xs b bytes p end) in omega (arith, same)
-
 -- no more is read than was left
 pub Consumes-within : (xs : List ℕ) (b : Option (List ℕ)) (bytes : List ℕ) → Consumes (Some xs) b bytes → length bytes ≤ length xs
 Consumes-within xs None bytes p = absurd p
@@ -51,3 +47,18 @@ Consumes-within xs (Some ys) bytes p = let same : length xs ≡ length (bytes ++
 -- `&bytes[n..]`
 pub rest_whole : (n : ℕ) (bytes : List ℕ) → take (length bytes - n) (drop n bytes) ≡ drop n bytes
 rest_whole n bytes = take_all (length bytes - n) (drop n bytes) (omega (arith, length-drop n bytes))
+
+-- what one more call brings, where it comes to more than this in all, and where it does not
+pub more_than : (most count : ℕ) (r : Reading) (mid : Option (List ℕ)) (bytes buffer : List ℕ) → Consumes r.left_old mid bytes → Consumes mid r.left_new (take count buffer) → count ≤ length buffer → length bytes ≤ most → most - length bytes < count → TookMoreThan most r
+more_than most count r mid bytes buffer first next fits within more = record {
+  bytes = bytes ++ take count buffer;
+  read = Consumes-then r.left_old mid r.left_new bytes (take count buffer) first next;
+  more = omega (arith, length-append bytes (take count buffer), length-take count buffer);
+}
+
+pub at_most : (most count : ℕ) (r : Reading) (mid : Option (List ℕ)) (bytes buffer : List ℕ) → Consumes r.left_old mid bytes → Consumes mid r.left_new (take count buffer) → count ≤ length buffer → length bytes ≤ most → count ≤ most - length bytes → TookAtMost most r
+at_most most count r mid bytes buffer first next fits within more = record {
+  bytes = bytes ++ take count buffer;
+  read = Consumes-then r.left_old mid r.left_new bytes (take count buffer) first next;
+  within = omega (arith, length-append bytes (take count buffer), length-take count buffer);
+}

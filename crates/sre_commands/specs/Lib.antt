@@ -1,7 +1,7 @@
 pub mod Tokens
 pub mod Commands
+pub mod Streams
 pub mod Headline
-pub mod Causes
 pub mod Ending
 pub mod Program
 pub mod Laws

@@ -1,21 +1,19 @@
 //! What the program does.
 
-ghost use Rattle.std.specs.Prelude.{◌≡◌, ◌≢◌, ◌↔◌, ◌≤◌, ◌<◌, ◌⊎◌, ℕ, List, map, length, take, IsTrue, IfOk, OnOk, IfErr, string_bytes, Some};
-ghost use Rattle.std.specs.Io.KnownBytes.{Consumes, Appends, IsAtEnd};
-ghost use Rattle.py_base.specs.Stream.Faults.{Rose};
+ghost use Rattle.std.specs.Prelude.{◌≡◌, ◌≢◌, ◌↔◌, ◌≤◌, ◌<◌, ◌⊎◌, ℕ, List, map, length, false, IsTrue, IfOk, IfErr, OnOk, string_bytes};
 ghost use Rattle.sre_code.specs.PlainTree.{PlainTree};
 ghost use Rattle.sre_code.specs.Spelling.{Spells};
 ghost use Rattle.sre_commands.specs.Commands.Sub.Request.{Request, IsRequest, text_of, request_of};
+ghost use Rattle.sre_commands.specs.Ending.{status_of, IsStatus, IsEither, writes};
 ghost use Rattle.sre_commands.specs.Headline.{IsAnswered};
-ghost use Rattle.sre_commands.specs.Causes.{IsSubstitution, IsInvalidCode, IsNoRequest, IsFaulted, IsMalformed, IsCutShort, TookMoreThan, HasAtMost, Holds};
-ghost use Rattle.sre_commands.specs.Ending.{Ends, EndsReading};
-ghost use Rattle.sre_commands.specs.Program.{RepliesTo};
+ghost use Rattle.sre_commands.specs.Program.{IsSub, HasInvalidCode, IsNoRequest, RepliesTo, IsFaulted, IsMalformed, IsCutShort, Ends, EndsReading, Asks};
+ghost use Rattle.sre_commands.specs.Streams.{reading_of, writing_of, ReadFailed, WriteFailed, ReadWhole, TookAtMost, TookMoreThan, Wrote, WroteLess};
 
 use crate::commands::sub::answer::answer;
 use crate::commands::sub::request::{Substitution, parse};
 use crate::ending::{Ending, status_of};
-use crate::streams::{InputError, MOST_BYTES, read_all, write_all};
 use crate::error::ParseError;
+use crate::streams::{InputError, MOST_BYTES, read_all, write_all};
 use py_base::{Sink, Source, Steps};
 use sre_code::{CodeError, decode};
 use std::alloc::Global;
@@ -30,11 +28,11 @@ enum Reply {
     Fault(String),
 }
 
-// Whether the words are the one command.
-fn is_substitution(words: &[String]) -> bool
-    ensures { IsTrue result ↔ IsSubstitution (map string_bytes words.now) }
+// Whether the arguments are those of the one command.
+fn is_sub(arguments: &[String]) -> bool
+    ensures { IsTrue result ↔ IsSub (map string_bytes arguments.now) }
 {
-    let Some((word, rest)) = words.split_first() else {
+    let Some((word, rest)) = arguments.split_first() else {
         return false;
     };
     if !rest.is_empty() {
@@ -45,11 +43,15 @@ fn is_substitution(words: &[String]) -> bool
 
 // The request that the source holds.
 fn read_request<S: Source>(alloc: Global, source: &mut S) -> Result<Substitution, Ending>
-    ensures read { IfOk result (λ asked. Consumes (S.left source.old) (S.left source.new) (text_of (request_of asked))) }
-    ensures at_end { OnOk result (IsAtEnd (S.left source.new)) }
+    ensures read {
+        IfOk result (λ asked. ReadWhole
+            (reading_of S.left S.faults source.old source.new) (text_of (request_of asked))) }
     ensures request { IfOk result (λ asked. IsRequest (request_of asked)) }
-    ensures within { OnOk result (HasAtMost MOST_BYTES (S.left source.old)) }
-    ensures refused { IfErr result (λ ending. EndsReading ending MOST_BYTES (record { left_old = S.left source.old; left_new = S.left source.new; faults_old = S.faults source.old; faults_new = S.faults source.new })) }
+    ensures within {
+        OnOk result (TookAtMost MOST_BYTES (reading_of S.left S.faults source.old source.new)) }
+    ensures error {
+        IfErr result (λ ending. EndsReading ending MOST_BYTES
+            (reading_of S.left S.faults source.old source.new)) }
 {
     let bytes = match read_all(alloc, source) {
         Ok(bytes) => bytes,
@@ -72,7 +74,7 @@ fn reply_to<L: Ledger>(
 ) -> Result<Reply, Ending>
     requires { IsRequest (request_of asked.now) }
     ensures replies { IfOk result (RepliesTo (request_of asked.now)) }
-    ensures refused { IfErr result (λ ending. ending ≡ Ending.NoMemory) }
+    ensures error { IfErr result (λ ending. ending ≡ Ending.NoMemory) }
 {
     match decode(alloc, &asked.words, asked.groups) {
         Ok(code) => match answer(alloc, asked, &code, steps) {
@@ -90,9 +92,14 @@ fn reply_to<L: Ledger>(
 // Writes the line, and answers the ending, or that the sink failed.
 fn written<K: Sink>(sink: &mut K, line: &String, ending: Ending) -> Ending
     ensures ends { (result ≡ ending) ⊎ (result ≡ Ending.SinkFailed) }
-    ensures all { result ≢ Ending.SinkFailed → Appends (K.contents sink.old) (K.contents sink.new) (string_bytes line.now) }
-    ensures failed { result ≢ ending → Rose (K.faults sink.old) (K.faults sink.new) }
-    ensures front { result ≢ ending → (n : ℕ) × Appends (K.contents sink.old) (K.contents sink.new) (take n (string_bytes line.now)) }
+    ensures all {
+        result ≢ Ending.SinkFailed → Wrote
+            (writing_of K.contents K.faults sink.old sink.new) (string_bytes line.now) }
+    ensures less {
+        result ≢ ending → WroteLess
+            (writing_of K.contents K.faults sink.old sink.new) (string_bytes line.now) }
+    ensures failed {
+        result ≢ ending → WriteFailed (writing_of K.contents K.faults sink.old sink.new) }
 {
     match write_all(sink, line.as_bytes()) {
         Ok(()) => ending,
@@ -100,19 +107,22 @@ fn written<K: Sink>(sink: &mut K, line: &String, ending: Ending) -> Ending
     }
 }
 
-// Does what the words say, from the source to the sink, and answers how that ends.
+// Does what the arguments say, and answers how that ends.
 fn act<S: Source, K: Sink, L: Ledger>(
     alloc: Global,
-    words: &[String],
+    arguments: &[String],
     source: &mut S,
     sink: &mut K,
     steps: &mut Steps<L>,
 ) -> Ending
-    ensures { Ends result (map string_bytes words.now) MOST_BYTES
-        (record { left_old = S.left source.old; left_new = S.left source.new; faults_old = S.faults source.old; faults_new = S.faults source.new })
-        (record { held_old = K.contents sink.old; held_new = K.contents sink.new; faults_old = K.faults sink.old; faults_new = K.faults sink.new }) }
+    ensures ends {
+        Ends result (map string_bytes arguments.now) MOST_BYTES
+            (reading_of S.left S.faults source.old source.new)
+            (writing_of K.contents K.faults sink.old sink.new) }
+    ensures unread { result ≡ Ending.NoCommand → source.new ≡ source.old }
+    ensures unwritten { writes result ≡ false → sink.new ≡ sink.old }
 {
-    if !is_substitution(words) {
+    if !is_sub(arguments) {
         return Ending::NoCommand;
     }
     let asked = match read_request(alloc, source) {
@@ -126,51 +136,80 @@ fn act<S: Source, K: Sink, L: Ledger>(
     }
 }
 
-/// Does what the words of the command line say, without the program's name, from the source to the
-/// sink, and answers the status. No memory is taken after the first write.
+/// Does what the arguments of the command line say, without the program's name, from the source to
+/// the sink, and answers the status. No memory is taken after the first write.
 pub fn run<S: Source, K: Sink, L: Ledger>(
     alloc: Global,
-    words: &[String],
+    arguments: &[String],
     source: &mut S,
     sink: &mut K,
     steps: &mut Steps<L>,
 ) -> u8
-    ensures known { result ≤ 7 }
-
     // The source was read to its end as one request, and its answer was written.
-    ensures answered { result ≡ 0 → IsAnswered (S.left source.old) (S.left source.new) (K.contents sink.old) (K.contents sink.new) }
+    ensures answered {
+        result ≡ status_of Ending.Answered → IsAnswered
+            (reading_of S.left S.faults source.old source.new)
+            (writing_of K.contents K.faults sink.old sink.new) }
 
-    // The source was read to its end as one request whose words spell no tree, and that was written.
-    ensures faulted { result ≡ 1 → IsFaulted (S.left source.old) (S.left source.new) (K.contents sink.old) (K.contents sink.new) }
+    // Every other status, and its cause.
+    ensures known { IsStatus result }
+    ensures faulted {
+        result ≡ status_of Ending.Faulted → IsFaulted
+            (reading_of S.left S.faults source.old source.new)
+            (writing_of K.contents K.faults sink.old sink.new) }
+    ensures no_command {
+        (result ≡ status_of Ending.NoCommand) ↔ (IsSub (map string_bytes arguments.now) → ⊥) }
+    ensures malformed {
+        result ≡ status_of Ending.NoRequest → IsMalformed
+            (reading_of S.left S.faults source.old source.new) }
+    ensures source_failed {
+        result ≡ status_of Ending.SourceFailed → ReadFailed
+            (reading_of S.left S.faults source.old source.new) }
+    ensures cut_short {
+        result ≡ status_of Ending.SinkFailed → IsCutShort
+            (reading_of S.left S.faults source.old source.new)
+            (writing_of K.contents K.faults sink.old sink.new) }
+    ensures too_long {
+        result ≡ status_of Ending.TooLong → TookMoreThan MOST_BYTES
+            (reading_of S.left S.faults source.old source.new) }
+    ensures within {
+        result ≢ status_of Ending.TooLong → TookAtMost MOST_BYTES
+            (reading_of S.left S.faults source.old source.new) }
 
-    ensures no_command { (result ≡ 2) ↔ (IsSubstitution (map string_bytes words.now) → ⊥) }
-    ensures unread { result ≡ 2 → S.left source.new ≡ S.left source.old }
+    // What is left as it was.
+    ensures unread { result ≡ status_of Ending.NoCommand → source.new ≡ source.old }
+    ensures unwritten {
+        result ≢ status_of Ending.Answered → result ≢ status_of Ending.Faulted
+            → result ≢ status_of Ending.SinkFailed → sink.new ≡ sink.old }
 
-    // The source was read to its end, and its bytes are the text of no request.
-    ensures malformed { result ≡ 3 → IsMalformed (S.left source.old) (S.left source.new) }
-
-    ensures source_failed { result ≡ 4 → Rose (S.faults source.old) (S.faults source.new) }
-    ensures sink_failed { result ≡ 5 → Rose (K.faults sink.old) (K.faults sink.new) }
-
-    // A front of the line was written.
-    ensures cut_short { result ≡ 5 → IsCutShort (S.left source.old) (S.left source.new) (K.contents sink.old) (K.contents sink.new) }
-
-    ensures too_long { result ≡ 7 → TookMoreThan MOST_BYTES (S.left source.old) (S.left source.new) }
-    ensures quiet { 1 < result → result ≢ 5 → K.contents sink.new ≡ K.contents sink.old }
-
-    // Where neither stream fails, memory alone keeps a good request from its answer, ..
-    ensures answers { IsSubstitution (map string_bytes words.now) → (r : Request) (t : PlainTree) → IsRequest r → Spells r.words r.groups t → Holds MOST_BYTES (S.left source.old) (text_of r)
-        → ¬ Rose (S.faults source.old) (S.faults source.new) → ¬ Rose (K.faults sink.old) (K.faults sink.new) → (result ≡ 0) ⊎ (result ≡ 6) }
-
-    // .. and a request whose words spell no tree from the line that says so.
-    ensures faults { IsSubstitution (map string_bytes words.now) → (r : Request) → IsRequest r → IsInvalidCode r → Holds MOST_BYTES (S.left source.old) (text_of r)
-        → ¬ Rose (S.faults source.old) (S.faults source.new) → ¬ Rose (K.faults sink.old) (K.faults sink.new) → (result ≡ 1) ⊎ (result ≡ 6) }
-
-    // Bytes that are no request, and too many bytes, are refused as such.
-    ensures refuses { IsSubstitution (map string_bytes words.now) → (bytes : List ℕ) → IsNoRequest bytes → Holds MOST_BYTES (S.left source.old) bytes
-        → ¬ Rose (S.faults source.old) (S.faults source.new) → (result ≡ 3) ⊎ (result ≡ 6) }
-    ensures stops { IsSubstitution (map string_bytes words.now) → (bytes : List ℕ) → S.left source.old ≡ Some bytes → MOST_BYTES < length bytes
-        → ¬ Rose (S.faults source.old) (S.faults source.new) → (result ≡ 7) ⊎ (result ≡ 6) }
+    // What a source that tells its bytes brings about, where no stream fails: its answer, the line
+    // that says that its code words spell no tree, or the status of bytes that are no request or too
+    // many. Only memory may run out first.
+    ensures good_request {
+        (r : Request) (t : PlainTree) → IsRequest r → Spells r.words r.groups t
+            → Asks (map string_bytes arguments.now) (S.left source.old) (text_of r)
+            → length (text_of r) ≤ MOST_BYTES
+            → ¬ ReadFailed (reading_of S.left S.faults source.old source.new)
+            → ¬ WriteFailed (writing_of K.contents K.faults sink.old sink.new)
+            → IsEither result Ending.Answered Ending.NoMemory }
+    ensures invalid_code {
+        (r : Request) → IsRequest r → HasInvalidCode r
+            → Asks (map string_bytes arguments.now) (S.left source.old) (text_of r)
+            → length (text_of r) ≤ MOST_BYTES
+            → ¬ ReadFailed (reading_of S.left S.faults source.old source.new)
+            → ¬ WriteFailed (writing_of K.contents K.faults sink.old sink.new)
+            → IsEither result Ending.Faulted Ending.NoMemory }
+    ensures no_request {
+        (bytes : List ℕ) → IsNoRequest bytes
+            → Asks (map string_bytes arguments.now) (S.left source.old) bytes
+            → length bytes ≤ MOST_BYTES
+            → ¬ ReadFailed (reading_of S.left S.faults source.old source.new)
+            → IsEither result Ending.NoRequest Ending.NoMemory }
+    ensures too_many {
+        (bytes : List ℕ) → Asks (map string_bytes arguments.now) (S.left source.old) bytes
+            → MOST_BYTES < length bytes
+            → ¬ ReadFailed (reading_of S.left S.faults source.old source.new)
+            → IsEither result Ending.TooLong Ending.NoMemory }
 {
-    status_of(act(alloc, words, source, sink, steps))
+    status_of(act(alloc, arguments, source, sink, steps))
 }

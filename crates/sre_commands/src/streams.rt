@@ -1,9 +1,7 @@
-//! The loops that read all bytes and write all bytes.
+//! All bytes of a source, and all bytes to a sink.
 
-ghost use Rattle.std.specs.Prelude.{◌≡◌, ◌≤◌, ℕ, take, length, IfOk, OnOk, OnErr, Err, vec_len};
-ghost use Rattle.std.specs.Io.KnownBytes.{Consumes, IsAtEnd, Appends};
-ghost use Rattle.py_base.specs.Stream.Faults.{Rose};
-ghost use Rattle.sre_commands.specs.Causes.{TookMoreThan, HasAtMost};
+ghost use Rattle.std.specs.Prelude.{◌≡◌, ◌≢◌, ℕ, List, IfOk, OnOk, OnErr, Err};
+ghost use Rattle.sre_commands.specs.Streams.{reading_of, writing_of, ReadFailed, WriteFailed, ReadWhole, TookAtMost, TookMoreThan, Wrote, WroteLess};
 ghost use Rattle.sre_commands.specs.declared.streams.InputError.TheVariants.{NoMemory, Failed};
 
 use py_base::{Sink, Source};
@@ -11,6 +9,9 @@ use std::alloc::{AllocError, Global};
 
 /// How many bytes a request has at most.
 pub const MOST_BYTES: usize = 16_777_216;
+
+// How many bytes are read at most in one call.
+const BUFFER_BYTES: usize = 65_536;
 
 /// Why the bytes were not read.
 #[derive(Clone, Copy, Debug, PartialEq, Eq)]
@@ -41,39 +42,49 @@ impl From<py_base::Failed> for InputError {
 
 /// All bytes of the source, which are at most `MOST_BYTES`.
 pub fn read_all<S: Source>(alloc: Global, source: &mut S) -> Result<Vec<u8>, InputError>
-    ensures all { IfOk result (λ bytes. Consumes (S.left source.old) (S.left source.new) bytes.items) }
-    ensures at_end { OnOk result (IsAtEnd (S.left source.new)) }
-    ensures within { OnOk result (HasAtMost MOST_BYTES (S.left source.old)) }
-    ensures failed { result ≡ Err InputError.Failed → Rose (S.faults source.old) (S.faults source.new) }
-    ensures too_long { result ≡ Err InputError.TooLong → TookMoreThan MOST_BYTES (S.left source.old) (S.left source.new) }
+    ensures all {
+        IfOk result (λ bytes. ReadWhole
+            (reading_of S.left S.faults source.old source.new) bytes.items) }
+    ensures within {
+        result ≢ Err InputError.TooLong → TookAtMost MOST_BYTES
+            (reading_of S.left S.faults source.old source.new) }
+    ensures failed {
+        result ≡ Err InputError.Failed → ReadFailed
+            (reading_of S.left S.faults source.old source.new) }
+    ensures too_long {
+        result ≡ Err InputError.TooLong → TookMoreThan MOST_BYTES
+            (reading_of S.left S.faults source.old source.new) }
 {
     let mut bytes = Vec::new(alloc);
-    let mut buffer = [0u8; 65536];
+    let mut buffer = [0u8; BUFFER_BYTES];
     loop {
         let count = source.read(&mut buffer)?;
         if count == 0 {
             return Ok(bytes);
         }
-        bytes.extend_from_slice(&buffer[..count])?;
-        if bytes.len() > MOST_BYTES {
+        if count > MOST_BYTES - bytes.len() {
             return Err(InputError::TooLong);
         }
+        bytes.extend_from_slice(&buffer[..count])?;
     }
 }
 
-/// Writes all of the bytes, or a front of them.
+/// Writes all of the bytes.
 pub fn write_all<K: Sink>(sink: &mut K, bytes: &[u8]) -> Result<(), py_base::Failed>
-    ensures all { OnOk result (Appends (K.contents sink.old) (K.contents sink.new) bytes.now) }
-    ensures front { OnErr result ((n : ℕ) × Appends (K.contents sink.old) (K.contents sink.new) (take n bytes.now)) }
-    ensures failed { OnErr result (Rose (K.faults sink.old) (K.faults sink.new)) }
+    ensures all {
+        OnOk result (Wrote (writing_of K.contents K.faults sink.old sink.new) bytes.now) }
+    ensures less {
+        OnErr result (WroteLess (writing_of K.contents K.faults sink.old sink.new) bytes.now) }
+    ensures failed {
+        OnErr result (WriteFailed (writing_of K.contents K.faults sink.old sink.new)) }
 {
-    let mut at = 0;
-    while at < bytes.len() {
-        let count = sink.write(&bytes[at..])?;
+    let mut written = 0;
+    while written < bytes.len() {
+        let count = sink.write(&bytes[written..])?;
         if count == 0 {
             return Err(py_base::Failed);
         }
-        at += count;
+        written += count;
     }
     Ok(())
 }
