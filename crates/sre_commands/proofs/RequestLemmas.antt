@@ -1,5 +1,5 @@
 -- Different requests have different texts.
-use Rattle.std.proofs.Common.{◌≡◌, ℕ, ◌<◌, ◌^◌, List, [], ◌∷◌, ◌++◌, inr, drop, refl, sym, ap, ◌∙◌, arith, codes}
+use Rattle.std.proofs.Common.{◌≡◌, ℕ, ◌<◌, ◌^◌, List, [], ◌∷◌, ◌++◌, inr, drop, refl, sym, ap, ◌∙◌, arith, codes, append_assoc}
 use Rattle.std.specs.Fmt.{decimal}
 use Rattle.std.proofs.lemmas.Fmt.{decimal_injective}
 use Rattle.std.proofs.lemmas.List.{append-nil, append_cancel_left}
@@ -40,20 +40,27 @@ same_numbers (w ∷ ws) (v ∷ vs) h k e =
 request_same : (r q : Request) → r.pattern ≡ q.pattern → r.words ≡ q.words → r.groups ≡ q.groups → r.limit ≡ q.limit → r.template ≡ q.template → r.subject ≡ q.subject → r ≡ q
 request_same r q a b c d e f = λ i. record { pattern = a i; words = b i; groups = c i; limit = d i; template = e i; subject = f i }
 
-pub one_request : (r q : Request) → IsRequest r → IsRequest q → text_of r ≡ text_of q → r ≡ q
-one_request r q h k e =
+-- the text of one, and more, is the text of the other: they are one, and there is no more
+pub one_text : (r q : Request) (more : List ℕ) → IsRequest r → IsRequest q → text_of r ++ more ≡ text_of q → (r ≡ q) × (more ≡ [])
+one_text r q more h k e =
     let l = whole r h in
     let m = whole q k in
-    let pattern = same_line (codes "pattern ") (token r.pattern) (token q.pattern) (after_pattern r) (after_pattern q) l.pattern m.pattern e in
-    let words = same_line (codes "code") (numbers r.words) (numbers q.words) (after_words r) (after_words q) l.words m.words pattern.1 in
-    let groups = same_line (codes "groups ") (decimal r.groups) (decimal q.groups) (after_groups r) (after_groups q) l.groups m.groups words.1 in
-    let limit = same_line (codes "limit ") (decimal r.limit) (decimal q.limit) (after_limit r) (after_limit q) l.limit m.limit groups.1 in
-    let template = same_line (codes "list") (template_tokens r.template) (template_tokens q.template) (after_template r) (after_template q) l.template m.template limit.1 in
-    let subject = same_line (codes "subject ") (token r.subject) (token q.subject) [] [] l.subject m.subject (append-nil (after_template r) ∙ template.1 ∙ sym (append-nil (after_template q))) in
-    request_same r q
-    (same_token r.pattern q.pattern h.pattern k.pattern pattern.0)
-    (same_numbers r.words q.words h.words k.words words.0)
-    (decimal_injective r.groups q.groups h.groups k.groups groups.0)
-    (decimal_injective r.limit q.limit h.limit k.limit limit.0)
-    (same_template r.groups q.groups r.template q.template h.groups k.groups h.template k.template template.0)
-    (same_token r.subject q.subject h.subject k.subject subject.0)
+    let pattern = same_line (codes "pattern ") (token r.pattern) (token q.pattern) (after_pattern r ++ more) (after_pattern q) l.pattern m.pattern (sym (append_assoc (line (codes "pattern ") (token r.pattern)) (after_pattern r) more) ∙ e) in
+    let words = same_line (codes "code") (numbers r.words) (numbers q.words) (after_words r ++ more) (after_words q) l.words m.words (sym (append_assoc (line (codes "code") (numbers r.words)) (after_words r) more) ∙ pattern.1) in
+    let groups = same_line (codes "groups ") (decimal r.groups) (decimal q.groups) (after_groups r ++ more) (after_groups q) l.groups m.groups (sym (append_assoc (line (codes "groups ") (decimal r.groups)) (after_groups r) more) ∙ words.1) in
+    let limit = same_line (codes "limit ") (decimal r.limit) (decimal q.limit) (after_limit r ++ more) (after_limit q) l.limit m.limit (sym (append_assoc (line (codes "limit ") (decimal r.limit)) (after_limit r) more) ∙ groups.1) in
+    let template = same_line (codes "list") (template_tokens r.template) (template_tokens q.template) (after_template r ++ more) (after_template q) l.template m.template (sym (append_assoc (line (codes "list") (template_tokens r.template)) (after_template r) more) ∙ limit.1) in
+    let subject = same_line (codes "subject ") (token r.subject) (token q.subject) more [] l.subject m.subject (template.1 ∙ sym (append-nil (after_template q))) in
+    (
+      request_same r q
+        (same_token r.pattern q.pattern h.pattern k.pattern pattern.0)
+        (same_numbers r.words q.words h.words k.words words.0)
+        (decimal_injective r.groups q.groups h.groups k.groups groups.0)
+        (decimal_injective r.limit q.limit h.limit k.limit limit.0)
+        (same_template r.groups q.groups r.template q.template h.groups k.groups h.template k.template template.0)
+        (same_token r.subject q.subject h.subject k.subject subject.0),
+      subject.1,
+    )
+
+pub one_request : (r q : Request) → IsRequest r → IsRequest q → text_of r ≡ text_of q → r ≡ q
+one_request r q h k e = (one_text r q [] h k (append-nil (text_of r) ∙ e)).0
