@@ -1,0 +1,13 @@
+//! Laws of requests.
+
+ghost use Rattle.sre_commands.specs.Laws.{OneRequestForOneText, NoTextBeginsAnother};
+
+/// Different requests have different texts.
+pub fn one_request_for_one_text()
+    ensures { OneRequestForOneText }
+{}
+
+/// No text of a request is a proper prefix of another.
+pub fn no_text_begins_another()
+    ensures { NoTextBeginsAnother }
+{}
