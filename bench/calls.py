@@ -1,35 +1,46 @@
 #!/usr/bin/env python3
-"""Times calls on texts and whole numbers of the program `calls` beside the same calls of CPython.
+"""Times calls on texts and integers of the program `bench_driver` beside the same calls of CPython.
 
     python3 bench/calls.py [CASE ..] [--sizes N ..] [--seconds S] [--runs N] [--program PATH]
+    python3 bench/calls.py --instructions [CASE ..] [--sizes N ..] [--jobs N] [--program PATH]
 
-Build the program first: `cd crates/calls && rt run -- modpow 0 1000`.
+Build the program first: `cd crates/bench_driver && rt run -- modpow 0 1000`.
 
 Each case is one call, made so often that ours take about S seconds of processor time (0.3). From that the
 time of the same process with no call is taken off: its start, and making the text. CPython makes the same
-calls as often, on the same texts and numbers. Both times are those of the whole loop, which adds what the
+calls as often, on the same texts and integers. Both times are those of the whole loop, which adds what the
 calls give to a sum, and both sums have to be the same. Of a few runs the shortest counts.
+
+With --instructions both are counted in instructions, by valgrind: those of a process with a few calls less
+those of a process with none.
 
 Examples:
 
     python3 bench/calls.py
     python3 bench/calls.py find_ascii find_french --sizes 1000 100000
     python3 bench/calls.py modpow divmod literal repr --runs 5
+    python3 bench/calls.py --instructions --sizes 10000
 
 Ends with 0 where all sums agreed, with 1 where some did not, and with 2 where it could not run.
 """
 import argparse
+import collections
+import concurrent.futures
 import os
 import pathlib
 import resource
 import subprocess
 import sys
+import tempfile
 import time
 
-PROGRAM = pathlib.Path(__file__).resolve().parent.parent / "crates" / "calls" / "out" / "calls"
+import callgrind
+from callgrind import Fault
+
+PROGRAM = pathlib.Path(__file__).resolve().parent.parent / "crates" / "bench_driver" / "out" / "bench_driver"
 
 # Of each language: the block of a hundred characters, its word, what the word is replaced by, and the word
-# that stands at the end alone. They are the program's own, in crates/calls/src/made.rt.
+# that occurs only at the end. They are the program's own, in crates/timed_calls/src/sample_texts.rt.
 WORDS = {
     "ascii": (
         "the quiet river runs past seven old houses while the marker of the town stands in the rain and then ",
@@ -40,20 +51,19 @@ WORDS = {
         "façade", "devanture", "dernière",
     ),
 }
-TEXT_CALLS = ("find", "replace", "split", "slice", "join")
+TEXT_CALLS = ("find", "count", "startswith", "order", "equality", "replace", "split", "slice", "stepped", "join",
+              "iterate")
 NUMBER_CALLS = ("modpow", "divmod", "literal", "repr")
 CASES = (*(f"{call}_{language}" for call in TEXT_CALLS for language in WORDS), *NUMBER_CALLS)
 
-# A base, a dividend and a number to be written, each one more at each call.
+# A base, a dividend and an integer to be written, each one more at each call.
 FIRST = 12345678901234567890123456789012345678
+LAST_DIGITS = 0xFFFF  # 16 binary digits
+COUNTED = 8  # calls that are counted in instructions
 EXPONENT = 98765432109876543210987654321
 MODULUS = 2**127 - 1
 DIVISOR = 1234567890123456789
 LITERALS = [str(FIRST)[:-1] + str(digit) for digit in range(10)]
-
-
-class Fault(Exception):
-    """The program could not be run as the bench needs it."""
 
 
 def filled(block, size):
@@ -65,23 +75,61 @@ def text_calls(call, language, size):
     """A function that makes so many calls on a text, and gives the sum."""
     block, word, other, last = WORDS[language]
     text = filled(block, size)
-    if call == "find":
-        text = (filled(block, max(size - len(last), 0)) + last)[:size]
-        return lambda times: sum_of_places(text, last, times)
-    if call == "replace":
-        return lambda times: sum_of_replaced(text, word, other, times)
-    if call == "split":
-        return lambda times: sum_of_pieces(text, word, times)
-    if call == "slice":
-        return lambda times: sum_of_sliced(text, size // 4, size - size // 4, times)
-    pieces = text.split()
-    return lambda times: sum_of_joined(pieces, other, times)
+    ended = (filled(block, max(size - len(last), 0)) + last)[:size]
+    makers = {
+        "find": lambda: (sum_of_places, ended, last),
+        "count": lambda: (sum_of_counts, text, word),
+        "startswith": lambda: (sum_of_beginnings, text, filled(block, size // 2)),
+        "order": lambda: (sum_of_lesser, text, ended),
+        "equality": lambda: (sum_of_equal, text, copied(text), ended),
+        "replace": lambda: (sum_of_replaced, text, word, other),
+        "split": lambda: (sum_of_pieces, text, word),
+        "slice": lambda: (sum_of_sliced, text, size // 4, size - size // 4),
+        "stepped": lambda: (sum_of_stepped, text),
+        "join": lambda: (sum_of_joined, text.split(), other),
+        "iterate": lambda: (sum_of_walks, text),
+    }
+    make_sum, *made = makers[call]()
+    return lambda times: make_sum(*made, times)
+
+
+def copied(text):
+    """An equal text in another place of memory."""
+    return (text + " ")[:-1]
 
 
 def sum_of_places(text, word, times):
     total = 0
     for i in range(times):
         total += text.find(word, i % 2)
+    return total
+
+
+def sum_of_counts(text, word, times):
+    total = 0
+    for i in range(times):
+        total += text.count(word, i % 2)
+    return total
+
+
+def sum_of_beginnings(text, beginning, times):
+    total = 0
+    for i in range(times):
+        total += text.startswith(beginning, i % 2)
+    return total
+
+
+def sum_of_lesser(text, ended, times):
+    total = 0
+    for i in range(times):
+        total += text < ended if i % 2 == 0 else ended < text
+    return total
+
+
+def sum_of_equal(text, copy, ended, times):
+    total = 0
+    for i in range(times):
+        total += text == (copy if i % 2 == 0 else ended)
     return total
 
 
@@ -106,6 +154,13 @@ def sum_of_sliced(text, start, stop, times):
     return total
 
 
+def sum_of_stepped(text, times):
+    total = 0
+    for i in range(times):
+        total += len(text[i % 2::3])
+    return total
+
+
 def sum_of_joined(pieces, between, times):
     total = 0
     for _ in range(times):
@@ -113,10 +168,19 @@ def sum_of_joined(pieces, between, times):
     return total
 
 
+def sum_of_walks(text, times):
+    """Each walk goes through the whole text in C, and keeps its last character."""
+    total = 0
+    for _ in range(times):
+        for letter in collections.deque(text, maxlen=1):
+            total += ord(letter)
+    return total
+
+
 def sum_of_powers(times):
     total = 0
     for i in range(times):
-        total += pow(FIRST + i, EXPONENT, MODULUS) & 0xFFFF
+        total += pow(FIRST + i, EXPONENT, MODULUS) & LAST_DIGITS
     return total
 
 
@@ -124,14 +188,14 @@ def sum_of_quotients(times):
     total = 0
     for i in range(times):
         quotient, remainder = divmod(FIRST + i, DIVISOR)
-        total += (quotient & 0xFFFF) + (remainder & 0xFFFF)
+        total += (quotient & LAST_DIGITS) + (remainder & LAST_DIGITS)
     return total
 
 
 def sum_of_literals(times):
     total = 0
     for i in range(times):
-        total += int(LITERALS[i % 10]) & 0xFFFF
+        total += int(LITERALS[i % 10]) & LAST_DIGITS
     return total
 
 
@@ -191,38 +255,78 @@ def measured(asked, case, size):
 
 
 def print_table(asked):
-    print(f"{'case':15} {'size':>10} {'calls':>10} {'ours':>15} {'CPython':>15} {'ratio':>7}")
+    print(f"{'case':17} {'size':>10} {'calls':>10} {'ours':>15} {'CPython':>15} {'ratio':>7}")
     right = True
     for case in asked.cases or CASES:
-        for wanted in [0] if case in NUMBER_CALLS else asked.sizes:
+        for wanted in sizes_of(asked, case):
             size, times, ours, theirs, agree = measured(asked, case, wanted)
             right = right and agree
             print(
-                f"{case:15} {size or '':>10} {times:>10} {ours:>12,.0f} ns {theirs:>12,.0f} ns"
+                f"{case:17} {size or '':>10} {times:>10} {ours:>12,.0f} ns {theirs:>12,.0f} ns"
                 f" {ours / max(theirs, 1e-9):>7.2f}{'' if agree else '   THE SUMS DIFFER'}",
                 flush=True,
             )
     return 0 if right else 1
 
 
+# What CPython does under valgrind: so many calls, on what was made before.
+CPYTHON = """
+import sys
+sys.path.insert(0, sys.argv[1])
+import calls
+calls.cpython(sys.argv[2], int(sys.argv[3]))(int(sys.argv[4]))
+"""
+
+
+def count_case(asked, case, size):
+    """Ours and CPython's, in instructions a call."""
+    here = str(pathlib.Path(__file__).resolve().parent)
+    with tempfile.TemporaryDirectory() as name:
+        folder = pathlib.Path(name)
+        both = []
+        for words in ([asked.program], [sys.executable, "-c", CPYTHON, here]):
+            few, more = (callgrind.counted([*words, case, str(size), str(n)], b"", folder) for n in (2, 2 + COUNTED))
+            both.append((more - few) / COUNTED)
+        return both
+
+
+def print_instructions(asked):
+    callgrind.check_installed()
+    print(f"{'case':17} {'size':>10} {'ours':>12} {'CPython':>12} {'ratio':>7}")
+    todo = [(case, size) for case in asked.cases or CASES for size in sizes_of(asked, case)]
+    with concurrent.futures.ThreadPoolExecutor(asked.jobs) as pool:
+        for (case, size), done in zip(todo, pool.map(lambda one: count_case(asked, *one), todo)):
+            ours, theirs = done
+            print(f"{case:17} {size or '':>10} {ours:>12,.0f} {theirs:>12,.0f} {ours / theirs:>7.2f}", flush=True)
+    return 0
+
+
+def sizes_of(asked, case):
+    return [0] if case in NUMBER_CALLS else asked.sizes
+
+
 def main(words=None):
     raw = argparse.RawDescriptionHelpFormatter
     parser = argparse.ArgumentParser(prog="calls.py", description=__doc__, formatter_class=raw)
     parser.add_argument("cases", nargs="*", metavar="CASE", help=f"of {', '.join(CASES)} (all)")
-    parser.add_argument("--sizes", type=int, nargs="+", default=[1_000, 10_000_000], metavar="N",
-                        help="of the texts, in characters (1000 10000000)")
+    parser.add_argument("--sizes", type=int, nargs="+", metavar="N",
+                        help="of the texts, in characters (1000 10000000; 1000 for instructions)")
     parser.add_argument("--seconds", type=float, default=0.3, metavar="S", help="that a run takes about (0.3)")
     parser.add_argument("--runs", type=int, default=3, metavar="N", help="of which the shortest time counts (3)")
+    parser.add_argument("--instructions", action="store_true", help="count instructions by valgrind")
+    parser.add_argument("--jobs", type=int, default=os.cpu_count(), metavar="N", help="of --instructions, side by side")
     parser.add_argument("--program", default=str(PROGRAM), metavar="PATH", help="the built program")
     asked = parser.parse_args(words)
+    if asked.sizes is None:
+        asked.sizes = [1_000] if asked.instructions else [1_000, 10_000_000]
     for case in asked.cases:
         if case not in CASES:
             parser.error(f"no such case: {case}")
     if not os.access(asked.program, os.X_OK):
-        print(f"{asked.program} is not built: cd crates/calls && rt run -- modpow 0 1000", file=sys.stderr)
+        print(f"{asked.program} is not built: cd crates/bench_driver && rt run -- modpow 0 1000", file=sys.stderr)
         return 2
     try:
-        return print_table(asked)
+        return print_instructions(asked) if asked.instructions else print_table(asked)
     except Fault as fault:
         print(f"calls.py: {fault}", file=sys.stderr)
         return 2

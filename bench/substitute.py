@@ -28,14 +28,14 @@ import concurrent.futures
 import json
 import os
 import pathlib
-import re
-import shutil
 import subprocess
 import sys
 import tempfile
 import time
 
+import callgrind
 import workloads
+from callgrind import Fault, counted
 
 PROGRAM = workloads.TOP / "crates" / "sre_program" / "out" / "sre_program"
 
@@ -63,10 +63,6 @@ engine.subn(template, "")
 if sys.argv[4] == "call":
     engine.subn(template, case.subject, case.limit)
 """
-
-
-class Fault(Exception):
-    """The program could not be run as the bench needs it."""
 
 
 def run_ours(program, request, answer):
@@ -118,18 +114,6 @@ def print_times(asked):
     return 0 if right else 1
 
 
-def counted(words, stdin, folder):
-    """How many instructions a process takes, by valgrind."""
-    out = folder / "callgrind.out"
-    tool = ["valgrind", "--tool=callgrind", f"--callgrind-out-file={out}"]
-    env = {**os.environ, "PYTHONHASHSEED": "0"}
-    run = subprocess.run([*tool, *words], input=stdin, capture_output=True, env=env)
-    found = re.search(rb"Collected : (\d+)", run.stderr)
-    if run.returncode != 0 or not found:
-        raise Fault(f"valgrind: {run.stderr.decode('utf-8', 'replace')[-300:]}")
-    return int(found[1])
-
-
 def count_case(program, characters, case):
     """Ours, the frame and CPython's, in instructions."""
     with tempfile.TemporaryDirectory() as name:
@@ -143,8 +127,7 @@ def count_case(program, characters, case):
 
 
 def print_instructions(asked):
-    if shutil.which("valgrind") is None:
-        raise Fault("valgrind is not installed")
+    callgrind.check_installed()
     print(f"{'case':18} {'ours':>10} {'frame':>10} {'CPython':>10} {'search':>7} {'whole':>7} {'a char':>8}")
     with concurrent.futures.ThreadPoolExecutor(asked.jobs) as pool:
         listed = list(workloads.ten_workloads(asked.characters))

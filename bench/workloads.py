@@ -9,13 +9,16 @@ sys.path.insert(0, str(TOP / "tools"))
 
 import formats  # noqa: E402
 import python_regex  # noqa: E402
-
-MOST = 4_294_967_295  # in the place of a repeat's greatest count: there is none
+from opcodes import (  # noqa: E402
+    ANY_ALL, ASSERT, BRANCH, CATEGORY, CATEGORY_UNI_DIGIT, CATEGORY_UNI_WORD, FAILURE, GROUPREF, IN, INFO, JUMP,
+    LITERAL, MARK, MAX_UNTIL, MAXREPEAT, MIN_REPEAT_ONE, REPEAT, REPEAT_ONE, SUCCESS,
+)
 
 # A set with one category, whole.
-DIGIT, WORD = [13, 4, 8, 10, 0], [13, 4, 8, 14, 0]
-A_OR_B = [7, 5, 16, 97, 15, 7, 5, 16, 98, 15, 2, 0]
-SOME_WORDS = [24, 9, 1, MOST, *WORD, 1]
+DIGIT = [IN, 4, CATEGORY, CATEGORY_UNI_DIGIT, FAILURE]
+WORD = [IN, 4, CATEGORY, CATEGORY_UNI_WORD, FAILURE]
+A_OR_B = [BRANCH, 5, LITERAL, ord("a"), JUMP, 7, 5, LITERAL, ord("b"), JUMP, 2, FAILURE]
+SOME_WORDS = [REPEAT_ONE, 9, 1, MAXREPEAT, *WORD, SUCCESS]
 
 FRENCH = (
     "Le cœur a été pressé à l'été dernier, où l'élève zélé répétait déjà ses leçons, là-bas, près de la forêt. "
@@ -38,8 +41,8 @@ class Case:
 
     def frame(self):
         """A request with the same subject, in which there is next to nothing to search: the empty pattern
-        is found once, at the front. What is left is reading, hexadecimal, copying and writing."""
-        return formats.sub_request("", [1], 0, [""], self.subject, 1)
+        is found once, at the start. What is left is reading, hexadecimal, copying and writing."""
+        return formats.sub_request("", [SUCCESS], 0, [""], self.subject, 1)
 
     def template(self):
         """The list as CPython writes it; no literal here has a backslash."""
@@ -59,33 +62,36 @@ def filled(piece, count):
 
 def ten_workloads(count):
     """One case for each kind of work, on subjects of at most `count` characters."""
-    a_or_ab = [7, 5, 16, 97, 15, 9, 7, 16, 97, 16, 98, 15, 2, 0, 1]
-    doubled = [17, 0, *A_OR_B, 17, 1, 11, 0, 1]
-    swapped = [17, 0, *SOME_WORDS, 17, 1, 16, 32, 17, 2, *SOME_WORDS, 17, 3, 1]
-    tag = [16, 60, 26, 5, 0, MOST, 3, 1, 16, 62, 1]
-    long = [23, 15, 0, MOST, *A_OR_B, 18, 1]
-    yield Case("literal", "a", [16, 97, 1], "b", filled("ba", count))
+    a, b, x, e = ([LITERAL, ord(c)] for c in "abxé")
+    a_or_ab = [BRANCH, 5, *a, JUMP, 9, 7, *a, *b, JUMP, 2, FAILURE, SUCCESS]
+    doubled = [MARK, 0, *A_OR_B, MARK, 1, GROUPREF, 0, SUCCESS]
+    swapped = [MARK, 0, *SOME_WORDS, MARK, 1, LITERAL, ord(" "), MARK, 2, *SOME_WORDS, MARK, 3, SUCCESS]
+    tag = [LITERAL, ord("<"), MIN_REPEAT_ONE, 5, 0, MAXREPEAT, ANY_ALL, SUCCESS, LITERAL, ord(">"), SUCCESS]
+    long = [REPEAT, 15, 0, MAXREPEAT, *A_OR_B, MAX_UNTIL, SUCCESS]
+    star = [REPEAT_ONE, 6, 0, MAXREPEAT, *x, SUCCESS, SUCCESS]
+    digits = [REPEAT_ONE, 9, 1, MAXREPEAT, *DIGIT, SUCCESS, SUCCESS]
+    yield Case("literal", "a", [*a, SUCCESS], "b", filled("ba", count))
     yield Case("alternatives", "a|ab", a_or_ab, "X", filled("ab", count))
     yield Case("backreference", r"(a|b)\1", doubled, ["<", 1, ">"], filled("abba", count), groups=1)
-    yield Case("star", "x*", [24, 6, 0, MOST, 16, 120, 1, 1], "-", filled("abxd", count // 2))
-    yield Case("digits", r"\d+", [24, 9, 1, MOST, *DIGIT, 1, 1], "#", filled(LOG, count))
+    yield Case("star", "x*", star, "-", filled("abxd", count // 2))
+    yield Case("digits", r"\d+", digits, "#", filled(LOG, count))
     yield Case("one long repeat", "(?:a|b)*", long, "-", filled("ab", min(count, 1_000_000)))
-    yield Case("look-behind", "(?<=a)b", [4, 5, 1, 16, 97, 1, 16, 98, 1], "X", filled("abbb", count))
+    yield Case("lookbehind", "(?<=a)b", [ASSERT, 5, 1, *a, SUCCESS, *b, SUCCESS], "X", filled("abbb", count))
     yield Case("lazy repeat", "<.*?>", tag, "", filled("<b>bold</b> ", count))
-    yield Case("French", "é", [16, 233, 1], "e", filled(FRENCH, count * 4 // 5))
+    yield Case("French", "é", [*e, SUCCESS], "e", filled(FRENCH, count * 4 // 5))
     yield Case("two groups", r"(\w+) (\w+)", swapped, ["", 2, " ", 1, ""], filled("two words, ", count), groups=2)
 
 
 def more_workloads(count):
-    """Literal characters and "any character": how often they match, and what stands round them."""
-    a = [16, 97, 1]
-    several = [16, 97, 16, 98, 3, 16, 99, 1]
-    with_info = [14, 8, 3, 1, 1, 1, 1, 97, 0, 16, 97, 1]
+    """Literal characters and "any character": how often they match, and what is beside them."""
+    a, z = ([LITERAL, ord(c), SUCCESS] for c in "az")
+    several = [LITERAL, ord("a"), LITERAL, ord("b"), ANY_ALL, LITERAL, ord("c"), SUCCESS]
+    with_info = [INFO, 8, 3, 1, 1, 1, 1, ord("a"), 0, *a]
     yield Case("start", "a", a, "b", "aaa", 2)
-    yield Case("no match", "z", [16, 122, 1], "b", filled("ba", count))
+    yield Case("no match", "z", z, "b", filled("ba", count))
     yield Case("all match", "a", a, "b", filled("a", count))
     yield Case("with info", "a", with_info, "b", filled("ba", count))
     yield Case("four nodes", "ab.c", several, "<>", filled("abxcab", count))
     yield Case("four, near misses", "ab.c", several, "<>", filled("abxabx", count))
-    yield Case("any unit", ".", [3, 1], "x", filled("ab", count))
-    yield Case("empty tree", "", [1], "-", filled("ab", count // 2))
+    yield Case("any unit", ".", [ANY_ALL, SUCCESS], "x", filled("ab", count))
+    yield Case("empty tree", "", [SUCCESS], "-", filled("ab", count // 2))

@@ -1,7 +1,14 @@
 """Reads the tree that code words spell, by the tables of docs/FORMATS.md. The trees are those of grammar.py."""
 import grammar
+import opcodes
+from opcodes import (
+    ANY, ANY_ALL, ASSERT, ASSERT_NOT, AT, ATOMIC_GROUP, BIGCHARSET, BRANCH, CATEGORY, CHARSET, FAILURE, GROUPREF,
+    GROUPREF_EXISTS, IN, INFO, JUMP, LITERAL, MARK, MAX_UNTIL, MIN_REPEAT_ONE, MIN_UNTIL, NEGATE, NOT_LITERAL,
+    POSSESSIVE_REPEAT, POSSESSIVE_REPEAT_ONE, RANGE, REPEAT, REPEAT_ONE, SUCCESS,
+)
 
-WIDE_KINDS = {24: "greedy", 26: "lazy", 29: "possessive"}
+SIMPLE_NODES = {FAILURE: "fail", ANY: "any", ANY_ALL: "any_all"}
+WIDE_KINDS = {REPEAT_ONE: "greedy", MIN_REPEAT_ONE: "lazy", POSSESSIVE_REPEAT_ONE: "possessive"}
 
 
 class NoTree(Exception):
@@ -14,15 +21,15 @@ class NoTree(Exception):
 
 def read(words, groups):
     """The body that the words spell for so many groups; else NoTree."""
-    if groups > grammar.MOST_GROUPS:
-        raise NoTree(0, f"there are more than {grammar.MOST_GROUPS} groups")
+    if groups > opcodes.MAXGROUPS:
+        raise NoTree(0, f"there are more than {opcodes.MAXGROUPS} groups")
     reader = Reader(words, groups)
-    if words[:1] == [14]:
+    if words[:1] == [INFO]:
         reader.pass_over()
     body = reader.body(0)
-    reader.expect(1, "the last word is 1")
+    reader.expect(SUCCESS, f"the last word is {SUCCESS}")
     if reader.place != len(words):
-        raise NoTree(reader.place, "words stand behind the end")
+        raise NoTree(reader.place, "words follow the end")
     return body
 
 
@@ -54,8 +61,8 @@ class Reader:
 
     def body(self, depth, end=None):
         """Nodes up to a word that begins none, or up to the place `end`."""
-        if depth > grammar.MOST_NESTED:
-            self.fail(f"more than {grammar.MOST_NESTED} bodies stand inside one another")
+        if depth > opcodes.MAXDEPTH:
+            self.fail(f"more than {opcodes.MAXDEPTH} bodies are inside one another")
         nodes = []
         while self.place < len(self.words) and self.place != end and self.begins():
             if end is not None and self.place > end:
@@ -67,25 +74,23 @@ class Reader:
 
     def begins(self):
         word = self.words[self.place]
-        if word == 17:
+        if word == MARK:
             return self.place + 1 < len(self.words) and self.words[self.place + 1] % 2 == 0
-        if word == 0:
-            return True
-        return word not in (1, 15, 18, 19)
+        return word not in (SUCCESS, JUMP, MAX_UNTIL, MIN_UNTIL)
 
     def node(self, depth):
         word = self.next()
-        if word in (0, 2, 3):
-            return ({0: "fail", 2: "any", 3: "any_all"}[word],)
-        if word in (16, 20):
-            return ("lit" if word == 16 else "not_lit", self.next())
-        if word == 6:
-            return ("at", self.one_of(grammar.PLACES, "there is no place of this kind"))
-        if word == 11:
+        if word in SIMPLE_NODES:
+            return (SIMPLE_NODES[word],)
+        if word in (LITERAL, NOT_LITERAL):
+            return ("lit" if word == LITERAL else "not_lit", self.next())
+        if word == AT:
+            return ("at", self.one_of(grammar.PLACES, "there is no anchor of this number"))
+        if word == GROUPREF:
             return ("ref", self.group())
-        readers = {13: self.set, 17: self.marked, 12: self.exists, 7: self.branch, 27: self.atomic,
-                   4: self.look, 5: self.look, 23: self.repeat, 28: self.possessive,
-                   24: self.wide, 26: self.wide, 29: self.wide}
+        readers = {IN: self.set, MARK: self.marked, GROUPREF_EXISTS: self.exists, BRANCH: self.branch,
+                   ATOMIC_GROUP: self.atomic, ASSERT: self.look, ASSERT_NOT: self.look, REPEAT: self.repeat,
+                   POSSESSIVE_REPEAT: self.possessive, **dict.fromkeys(WIDE_KINDS, self.wide)}
         if word not in readers:
             self.place -= 1
             self.fail(f"no node begins with {described(word)}")
@@ -110,15 +115,15 @@ class Reader:
             self.fail(why)
 
     def skip_from(self, place):
-        """What a skip that stands at a place has to be, now that what it skips was read."""
+        """What a skip at a place has to be, now that what it skips was read."""
         self.check(self.words[place] == self.place - place, "a skip leads elsewhere")
 
     def set(self, _depth):
         at, items = self.place, []
         self.next()
-        negated = self.place < len(self.words) and self.words[self.place] == 21
+        negated = self.place < len(self.words) and self.words[self.place] == NEGATE
         self.place += negated
-        while self.next() != 0:
+        while self.next() != FAILURE:
             self.place -= 1
             items.append(self.item())
         self.skip_from(at)
@@ -126,15 +131,15 @@ class Reader:
 
     def item(self):
         word = self.next()
-        if word == 16:
+        if word == LITERAL:
             return ("lit", self.next())
-        if word == 22:
+        if word == RANGE:
             return ("span", self.next(), self.next())
-        if word == 8:
+        if word == CATEGORY:
             return ("category", self.one_of(grammar.CATEGORIES, "there is no category of this number"))
-        if word == 9:
+        if word == CHARSET:
             return ("bits", self.several(8))
-        if word == 10:
+        if word == BIGCHARSET:
             count = self.next()
             return ("blocks", self.several(64), self.several(8 * count))
         self.place -= 1
@@ -152,7 +157,7 @@ class Reader:
         self.check(mark % 2 == 0, "no group begins with an odd mark")
         self.check(g <= self.groups, f"group {g} is past the {self.groups} of the code")
         body = self.body(depth + 1)
-        self.expect(17, "the group is not closed")
+        self.expect(MARK, "the group is not closed")
         self.expect(mark + 1, "another group is closed")
         return ("group", g, body)
 
@@ -168,9 +173,9 @@ class Reader:
         return ("exists", g, yes, self.body(depth + 1, stop))
 
     def first_of_two(self, end, depth):
-        """The first part where a second follows: before `end` stand 15 and its skip."""
+        """The first part where a second follows: before `end` are JUMP and its skip."""
         start = self.place
-        if end - 2 < start or self.words[end - 2] != 15:
+        if end - 2 < start or self.words[end - 2] != JUMP:
             return None
         try:
             return self.body(depth + 1, end - 2)
@@ -182,10 +187,10 @@ class Reader:
         jumps, bodies = [], []
         while True:
             at = self.place
-            if self.next() == 0:
+            if self.next() == FAILURE:
                 break
             bodies.append(self.body(depth + 1))
-            self.expect(15, "an alternative ends with 15")
+            self.expect(JUMP, f"an alternative ends with {JUMP}")
             jumps.append(self.place)
             self.next()
             self.skip_from(at)
@@ -205,8 +210,8 @@ class Reader:
         lo, hi = self.counts()
         body = self.body(depth + 1)
         self.skip_from(at)
-        last = self.one_of((18, 19), "a repeat ends with 18 or 19")
-        return ("repeat", "greedy" if last == 18 else "lazy", False, lo, hi, body)
+        last = self.one_of((MAX_UNTIL, MIN_UNTIL), f"a repeat ends with {MAX_UNTIL} or {MIN_UNTIL}")
+        return ("repeat", "greedy" if last == MAX_UNTIL else "lazy", False, lo, hi, body)
 
     def possessive(self, depth):
         at = self.place
@@ -214,7 +219,7 @@ class Reader:
         lo, hi = self.counts()
         body = self.body(depth + 1)
         self.skip_from(at)
-        self.expect(1, "a possessive repeat ends with 1")
+        self.expect(SUCCESS, f"a possessive repeat ends with {SUCCESS}")
         return ("repeat", "possessive", False, lo, hi, body)
 
     def wide(self, depth):
@@ -224,7 +229,7 @@ class Reader:
         body = self.body(depth + 1)
         one = len(body) == 1 and body[0][0] in grammar.ONE_WIDE
         self.check(one, "the body of such a repeat is one node that is one unit wide")
-        self.expect(1, "the body of such a repeat ends with 1")
+        self.expect(SUCCESS, f"the body of such a repeat ends with {SUCCESS}")
         self.skip_from(at)
         return ("repeat", kind, True, lo, hi, body)
 
@@ -232,23 +237,23 @@ class Reader:
         at = self.place
         self.next()
         body = self.body(depth + 1)
-        self.expect(1, "an atomic part ends with 1")
+        self.expect(SUCCESS, f"an atomic group ends with {SUCCESS}")
         self.skip_from(at)
         return ("atomic", body)
 
     def look(self, depth):
-        positive, at = self.words[self.place - 1] == 4, self.place
+        positive, at = self.words[self.place - 1] == ASSERT, self.place
         self.next()
         back = self.next()
         body = self.body(depth + 1)
-        self.expect(1, "a look ends with 1")
+        self.expect(SUCCESS, f"a lookahead or lookbehind ends with {SUCCESS}")
         self.skip_from(at)
         return ("look", positive, back, body)
 
 
 def described(word):
     """A word with CPython's name for it."""
-    if 30 <= word <= 42:
+    if word in opcodes.IGNORING:
         return f"{word}, which ignores case or uses the locale"
-    names = {number: name for name, number in grammar.OPCODES.items()}
+    names = {number: name for name, number in opcodes.OPCODES.items()}
     return f"{word} ({names[word]})" if word in names else str(word)

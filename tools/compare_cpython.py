@@ -30,18 +30,19 @@ import unicodedata
 import warnings
 
 import code_reader
+import comparison
 import differences
 import grammar
-import judge
+import opcodes
 import python_regex
 import random_codes
 import random_patterns
-from judge import LONG, SAME, Case
+from comparison import LONG, SAME, Case
 
 TOP = pathlib.Path(__file__).resolve().parent.parent
 PROGRAM = TOP / "crates" / "sre_program" / "out" / "sre_program"
 PIECE = 50  # cases that a process takes at a time
-UNJUDGED = (judge.UNKNOWN, "refused by CPython")
+NOT_COMPARED = (comparison.UNKNOWN, "not compiled by CPython")
 
 
 def random_case(seed, number):
@@ -51,8 +52,8 @@ def random_case(seed, number):
     return Case(f"code {number}", body, grammar.spell(body), groups, items, subject, limit)
 
 
-def judge_random(program, seed, number):
-    return judge.judged(program, random_case(seed, number))
+def compare_random(program, seed, number):
+    return comparison.compared(program, random_case(seed, number))
 
 
 def pattern_case(seed, number):
@@ -61,20 +62,21 @@ def pattern_case(seed, number):
     return case_of_pattern(python_regex.Compiled(pattern), subject)
 
 
-def judge_pattern(program, seed, number):
+def compare_pattern(program, seed, number):
     try:
-        return judge.judged(program, pattern_case(seed, number))
+        return comparison.compared(program, pattern_case(seed, number))
     except python_regex.NotInGrammar as fault:
         return f"NOT IN THE GRAMMAR ({fault})".upper(), None, None
     except python_regex.PatternError:
-        return UNJUDGED[1], None, None
+        return NOT_COMPARED[1], None, None
 
 
 def damaged_case(seed, number):
     """The words of a random case with one word changed, left out or added."""
     case, chance = random_case(seed, number), random.Random(f"{seed}/{number}/damaged")
     words, place = list(case.words), chance.randrange(len(case.words))
-    near = [chance.randrange(30), min(max(0, words[place] + chance.choice((-1, 1))), grammar.MOST), grammar.MOST]
+    beside = min(max(0, words[place] + chance.choice((-1, 1))), opcodes.MAXREPEAT)
+    near = [chance.randrange(opcodes.IGNORING.start), beside, opcodes.MAXREPEAT]
     words[place:place + chance.randint(0, 1)] = [chance.choice(near)] * chance.randint(0, 1)
     try:
         body = code_reader.read(words, case.groups)
@@ -83,23 +85,23 @@ def damaged_case(seed, number):
     return Case(f"damaged {number}", body, words, case.groups, case.items, case.subject, case.limit)
 
 
-def judge_damaged(program, seed, number):
+def compare_damaged(program, seed, number):
     case = damaged_case(seed, number)
-    ours, wanted = judge.by_program(program, case), judge.by_rules(case)
+    ours, wanted = comparison.by_program(program, case), comparison.by_rules(case)
     if LONG in (ours, wanted):  # as a huge least count of an empty body
-        return judge.UNKNOWN, ours, wanted
+        return comparison.UNKNOWN, ours, wanted
     return SAME if ours == wanted else "AGAINST THE RULES", ours, wanted
 
 
-def judge_piece(judge_one, program, seed, numbers):
-    return [(number, *judge_one(program, seed, number)) for number in numbers]
+def compare_piece(compare_one, program, seed, numbers):
+    return [(number, *compare_one(program, seed, number)) for number in numbers]
 
 
-def compare_by_chance(asked, report, title, make, judge_one):
+def compare_by_chance(asked, report, title, make, compare_one):
     report.begin(f"{title} (seed {asked.seed})")
     pieces = [range(i, min(i + PIECE, asked.codes)) for i in range(0, asked.codes, PIECE)]
     with concurrent.futures.ProcessPoolExecutor(asked.jobs) as pool:
-        todo = [pool.submit(judge_piece, judge_one, asked.program, asked.seed, piece) for piece in pieces]
+        todo = [pool.submit(compare_piece, compare_one, asked.program, asked.seed, piece) for piece in pieces]
         for done in todo:
             for number, verdict, ours, theirs in done.result():
                 report.add(verdict, lambda: make(asked.seed, number), ours, theirs)
@@ -133,7 +135,7 @@ def compare_tests(asked, report):
                 outside += 1
                 continue
         case = case_of_pattern(compiled, subject)
-        verdict, ours, theirs = judge.judged(asked.program, case)
+        verdict, ours, theirs = comparison.compared(asked.program, case)
         wanted = outcome == module.SUCCEED
         if verdict == SAME and (ours[1] > 0) != wanted:
             verdict = "AGAINST THE TABLE"
@@ -156,7 +158,7 @@ def compare_characters(asked, report):
         for pattern in (r"\d", r"\s", r"\w"):
             compiled = python_regex.Compiled(pattern)
             case = Case(pattern, compiled.body, compiled.words, 0, [""], half)
-            ours, theirs = judge.by_program(asked.program, case), judge.by_cpython(case)
+            ours, theirs = comparison.by_program(asked.program, case), comparison.by_cpython(case)
             if isinstance(ours, str) or isinstance(theirs, str):
                 report.add("NOT LISTED", lambda: pattern, ours, theirs)
                 continue
@@ -204,7 +206,7 @@ class Report:
         if SAME in self.counts:
             print(f"  {self.counts.pop(SAME):8} agree")
         for verdict, number in sorted(self.counts.items()):
-            print(f"  {number:8} {'differ: ' * (verdict not in UNJUDGED)}{verdict}")
+            print(f"  {number:8} {'differ: ' * (verdict not in NOT_COMPARED)}{verdict}")
         self.counts.clear()
 
 
@@ -226,9 +228,9 @@ def main(words=None):
         return 0 if asked.or_skip else 2
     report = Report(asked.show)
     compare_tests(asked, report)
-    compare_by_chance(asked, report, "random codes", random_case, judge_random)
-    compare_by_chance(asked, report, "random patterns", pattern_case, judge_pattern)
-    compare_by_chance(asked, report, "damaged codes", damaged_case, judge_damaged)
+    compare_by_chance(asked, report, "random codes", random_case, compare_random)
+    compare_by_chance(asked, report, "random patterns", pattern_case, compare_pattern)
+    compare_by_chance(asked, report, "damaged codes", damaged_case, compare_damaged)
     compare_characters(asked, report)
     report.end()
     print("every difference is a listed one" if report.faults == 0 else f"{report.faults} differences are not listed")

@@ -1,9 +1,11 @@
 """Where CPython's engine is known to answer otherwise, by the names of docs/DIFFERENCES.md."""
 import unicodedata
 
+from opcodes import AT_NON_BOUNDARY, AT_UNI_NON_BOUNDARY
+
 
 def nodes_of(body, inside=()):
-    """Every node of a body, with the nodes round it."""
+    """Every node of a body, with the nodes that it is inside."""
     for node in body:
         yield node, inside
         for part in parts_of(node):
@@ -21,7 +23,7 @@ def parts_of(node):
 
 
 def is_empty_boundary(nodes, subject):
-    return subject == "" and any(node[0] == "at" and node[1] in (4, 11) for node, _ in nodes)
+    return subject == "" and any(node[0] == "at" and node[1] in (AT_NON_BOUNDARY, AT_UNI_NON_BOUNDARY) for node, _ in nodes)
 
 
 def is_possessive_iterations(nodes, _subject):
@@ -29,7 +31,7 @@ def is_possessive_iterations(nodes, _subject):
 
 
 def is_group_in_itself(nodes, _subject):
-    """A copy of a group, or a condition on it, inside the group."""
+    """A back reference to a group, or a conditional on it, inside the group."""
     return any(
         node[0] in ("ref", "exists") and any(outer[:2] == ("group", node[1]) for outer in inside)
         for node, inside in nodes

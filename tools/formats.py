@@ -86,7 +86,7 @@ def read_answer(line):
         raise FormatError("an answer is written in ASCII") from None
     if words[0] == "error":
         if len(words) != 2 or not words[1]:
-            raise FormatError("behind `error` stands one name")
+            raise FormatError("one name follows `error`")
         return "error", words[1]
     if len(words) != 2:
         raise FormatError("an answer is a text's token and a number")

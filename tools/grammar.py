@@ -1,5 +1,4 @@
-"""The grammar of code words, written after the tables of docs/FORMATS.md: the numbers, and the words
-that spell a tree. The other way, from words to their tree, is in code_reader.py.
+"""The grammar of code words, written after the tables of docs/FORMATS.md: the words that spell a tree. The other way, from words to their tree, is in code_reader.py.
 
 A body is a list of nodes, and a node a tuple with its name first:
 
@@ -13,29 +12,26 @@ one unit wide. An item is ("lit", c), ("span", lo, hi), ("category", k), ("bits"
 ("blocks", map, blocks), with lists of words.
 """
 
-MOST = 4_294_967_295  # in the place of a greatest count: there is none
-MOST_GROUPS = 65_535
-MOST_NESTED = 200
-CATEGORIES = (0, 1, 2, 3, 4, 5, 6, 7, 10, 11, 12, 13, 14, 15, 16, 17)
-PLACES = (0, 1, 2, 3, 4, 5, 6, 7, 10, 11)
+import opcodes
+from opcodes import (
+    ANY, ANY_ALL, ASSERT, ASSERT_NOT, AT, ATOMIC_GROUP, BIGCHARSET, BRANCH, CATEGORY, CHARSET, FAILURE, GROUPREF,
+    GROUPREF_EXISTS, IN, JUMP, LITERAL, MARK, MAX_UNTIL, MIN_REPEAT_ONE, MIN_UNTIL, NEGATE, NOT_LITERAL,
+    POSSESSIVE_REPEAT, POSSESSIVE_REPEAT_ONE, RANGE, REPEAT, REPEAT_ONE, SUCCESS,
+)
+
+CATEGORIES = tuple(opcodes.CATEGORIES.values())
+PLACES = tuple(opcodes.ANCHORS.values())
 ONE_WIDE = ("any", "any_all", "lit", "not_lit", "set")
 
-# The names that CPython gives the words, and their numbers.
-OPCODES = {
-    "FAILURE": 0, "SUCCESS": 1, "ANY": 2, "ANY_ALL": 3, "ASSERT": 4, "ASSERT_NOT": 5, "AT": 6,
-    "BRANCH": 7, "CATEGORY": 8, "CHARSET": 9, "BIGCHARSET": 10, "GROUPREF": 11,
-    "GROUPREF_EXISTS": 12, "IN": 13, "INFO": 14, "JUMP": 15, "LITERAL": 16, "MARK": 17,
-    "MAX_UNTIL": 18, "MIN_UNTIL": 19, "NOT_LITERAL": 20, "NEGATE": 21, "RANGE": 22, "REPEAT": 23,
-    "REPEAT_ONE": 24, "MIN_REPEAT_ONE": 26, "ATOMIC_GROUP": 27, "POSSESSIVE_REPEAT": 28,
-    "POSSESSIVE_REPEAT_ONE": 29,
-}
-BODY_WORDS = {("greedy", False): (23, 18), ("lazy", False): (23, 19), ("possessive", False): (28, 1),
-              ("greedy", True): (24, 1), ("lazy", True): (26, 1), ("possessive", True): (29, 1)}
+# The word that begins a repeat, and the word after its body.
+BODY_WORDS = {("greedy", False): (REPEAT, MAX_UNTIL), ("lazy", False): (REPEAT, MIN_UNTIL),
+              ("possessive", False): (POSSESSIVE_REPEAT, SUCCESS), ("greedy", True): (REPEAT_ONE, SUCCESS),
+              ("lazy", True): (MIN_REPEAT_ONE, SUCCESS), ("possessive", True): (POSSESSIVE_REPEAT_ONE, SUCCESS)}
 
 
 def spell(body):
-    """The words of a whole code: those of the nodes, and the last 1."""
-    return [*body_words(body), 1]
+    """The words of a whole code: those of the nodes, and the last word."""
+    return [*body_words(body), SUCCESS]
 
 
 def body_words(body):
@@ -44,48 +40,48 @@ def body_words(body):
 
 def node_words(node):
     name, *rest = node
-    simple = {"fail": (0,), "any": (2,), "any_all": (3,), "lit": (16,), "not_lit": (20,), "at": (6,)}
+    simple = {"fail": FAILURE, "any": ANY, "any_all": ANY_ALL, "lit": LITERAL, "not_lit": NOT_LITERAL, "at": AT}
     if name in simple:
-        return [*simple[name], *rest]
-    return {"set": set_words, "group": group_words, "ref": lambda g: [11, g - 1],
+        return [simple[name], *rest]
+    return {"set": set_words, "group": group_words, "ref": lambda g: [GROUPREF, g - 1],
             "exists": exists_words, "branch": branch_words, "repeat": repeat_words,
             "atomic": atomic_words, "look": look_words}[name](*rest)
 
 
 def set_words(negated, items):
-    inner = [21] * negated + [word for item in items for word in item_words(item)]
-    return [13, len(inner) + 2, *inner, 0]
+    inner = [NEGATE] * negated + [word for item in items for word in item_words(item)]
+    return [IN, len(inner) + 2, *inner, FAILURE]
 
 
 def item_words(item):
     name, *rest = item
     if name == "blocks":
         table, blocks = rest
-        return [10, len(blocks) // 8, *table, *blocks]
+        return [BIGCHARSET, len(blocks) // 8, *table, *blocks]
     if name == "bits":
-        return [9, *rest[0]]
-    return [{"lit": 16, "span": 22, "category": 8}[name], *rest]
+        return [CHARSET, *rest[0]]
+    return [{"lit": LITERAL, "span": RANGE, "category": CATEGORY}[name], *rest]
 
 
 def group_words(g, body):
-    return [17, 2 * (g - 1), *body_words(body), 17, 2 * (g - 1) + 1]
+    return [MARK, 2 * (g - 1), *body_words(body), MARK, 2 * (g - 1) + 1]
 
 
 def exists_words(g, yes, no):
     first = body_words(yes)
     if no is None:
-        return [12, g - 1, len(first) + 2, *first]
+        return [GROUPREF_EXISTS, g - 1, len(first) + 2, *first]
     second = body_words(no)
-    return [12, g - 1, len(first) + 4, *first, 15, len(second) + 1, *second]
+    return [GROUPREF_EXISTS, g - 1, len(first) + 4, *first, JUMP, len(second) + 1, *second]
 
 
 def branch_words(bodies):
     spelled = [body_words(body) for body in bodies]
-    words, left = [7], sum(len(body) + 3 for body in spelled) + 1
+    words, left = [BRANCH], sum(len(body) + 3 for body in spelled) + 1
     for body in spelled:
         left -= len(body) + 3
-        words += [len(body) + 3, *body, 15, left + 1]
-    return [*words, 0]
+        words += [len(body) + 3, *body, JUMP, left + 1]
+    return [*words, FAILURE]
 
 
 def repeat_words(kind, wide, lo, hi, body):
@@ -96,9 +92,9 @@ def repeat_words(kind, wide, lo, hi, body):
 
 def atomic_words(body):
     inner = body_words(body)
-    return [27, len(inner) + 2, *inner, 1]
+    return [ATOMIC_GROUP, len(inner) + 2, *inner, SUCCESS]
 
 
 def look_words(positive, back, body):
     inner = body_words(body)
-    return [4 if positive else 5, len(inner) + 3, back, *inner, 1]
+    return [ASSERT if positive else ASSERT_NOT, len(inner) + 3, back, *inner, SUCCESS]

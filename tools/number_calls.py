@@ -1,8 +1,10 @@
-"""Calls on whole numbers, made by chance, with CPython's answers."""
+"""Calls on integers, made by chance, with CPython's answers."""
 import math
 import operator
 
-from table_tokens import b, error, i, optional, t
+from table_tokens import b, error, i, instead, optional, t
+
+WIDER = "an integer past 128 bits"
 
 LEAST, MOST = -(2**127), 2**127 - 1
 SMALL = (0, 0, 1, -1, 2, -2, 3, -3, 5, 7, 10, -10, 12, 100, -100, 1000)
@@ -21,10 +23,10 @@ def number(chance):
 
 
 def kept(*results):
-    """The answer, or the refusal where a result has more than 128 bits."""
+    """The answer, or the error that is in its place where a result has more than 128 bits."""
     if all(LEAST <= result <= MOST for result in results):
         return [i(result) for result in results]
-    return error("int_too_wide")
+    return instead("int_too_wide", WIDER)
 
 
 def of_two(operation, second=number):
@@ -67,8 +69,8 @@ def shift_count(chance):
 def left(one, count):
     if count < 0:
         return error("negative_shift")
-    # CPython refuses a huge count for want of memory; here it is the refusal, or 0 where the base is.
-    return kept(one << count) if one == 0 or count < 1000 else error("int_too_wide")
+    # For a huge count CPython has no memory; here the error is that of a wide result, or 0 where the base is 0.
+    return kept(one << count) if one == 0 or count < 1000 else instead("int_too_wide", WIDER)
 
 
 def right(one, count):
@@ -109,9 +111,9 @@ def power_exchanged(chance):
 
 def raised(base, exponent):
     if exponent < 0:
-        return error("not_carried")
+        return instead("not_carried", "a float, or ZeroDivisionError for the base 0")
     if abs(base) > 1 and exponent > 127:
-        return error("int_too_wide")
+        return instead("int_too_wide", WIDER)
     return kept(pow(base, exponent if abs(base) > 1 else exponent % 2 + 2 * (exponent > 1)))
 
 
@@ -133,6 +135,18 @@ def rounded(chance):
     return [i(one), optional(digits)], kept(round(one) if digits is None else round(one, digits))
 
 
+def modular_power(chance):
+    base, exponent = number(chance), number(chance)
+    modulus = chance.choice([0, 1, -1, 2, 9, -9, 2**61 - 1, MOST, LEAST, number(chance)])
+    return [i(base), i(exponent), i(modulus)], raised_within(base, exponent, modulus)
+
+
+def compare(chance):
+    one = number(chance)
+    other = chance.choice([one, one + 1 if one < MOST else one, number(chance)])
+    return [i(one), i(other)], [i((one > other) - (one < other))]
+
+
 ARITHMETIC = {
     "add": of_two(plain(operator.add)), "sub": of_two(plain(operator.sub)),
     "rsub": of_two(plain(lambda one, other: other - one)), "mul": of_two(plain(operator.mul), factor),
@@ -142,6 +156,7 @@ ARITHMETIC = {
     "and": of_two(plain(operator.and_)), "or": of_two(plain(operator.or_)), "xor": of_two(plain(operator.xor)),
     "invert": of_one(lambda one: kept(~one)), "neg": of_one(lambda one: kept(-one)),
     "abs": of_one(lambda one: kept(abs(one))), "pow": power, "rpow": power_exchanged, "round": rounded,
+    "modpow": modular_power, "compare": compare,
 }
 
 
@@ -164,9 +179,8 @@ def to_bytes(chance):
     arguments = [i(one), i(length), order, i(signed)]
     if one < 0 and not signed:
         return arguments, error("negative_to_unsigned")
-    # CPython 3.11 gives no bytes for -1 in 0 bytes, which hold 0 alone.
-    if length == 0 and one != 0:
-        return arguments, error("int_too_big")
+    if (one, length) == (-1, 0):  # no bytes, which are those of 0 too
+        return arguments, instead("int_too_big", "no bytes for -1")
     try:
         return arguments, [b(one.to_bytes(length, order, signed=signed))]
     except OverflowError:
@@ -222,4 +236,36 @@ FORMS = {
     "from_bytes": from_bytes, "to_bytes": to_bytes, "try_int_radix": literal,
     "bit_length": of_one(lambda one: [i(one.bit_length())]), "bit_count": of_one(lambda one: [i(one.bit_count())]),
     "hash": of_one(lambda one: [i(hash(one))]), "repr": of_one(lambda one: [t(repr(one))]),
+}
+
+
+def of_bool(operation):
+    def make(chance):
+        one = chance.random() < 0.5
+        return [i(one)], operation(one)
+    return make
+
+
+def of_two_bools(operation):
+    def make(chance):
+        one, other = chance.random() < 0.5, chance.random() < 0.5
+        return [i(one), i(other)], [i(operation(one, other))]
+    return make
+
+
+def itself(operation):
+    """A call of an integer that gives an integer."""
+    return of_one(lambda one: [i(operation(one))])
+
+
+VALUES = {
+    "pos": itself(operator.pos), "int": itself(int), "trunc": itself(math.trunc), "floor": itself(math.floor),
+    "ceil": itself(math.ceil), "index": itself(operator.index), "conjugate": itself(int.conjugate),
+    "real": itself(lambda one: one.real), "imag": itself(lambda one: one.imag),
+    "numerator": itself(lambda one: one.numerator), "denominator": itself(lambda one: one.denominator),
+    "getnewargs": of_one(lambda one: [i(part) for part in one.__getnewargs__()]),
+    "as_integer_ratio": of_one(lambda one: [i(part) for part in one.as_integer_ratio()]), "bool": itself(bool),
+    "bool_int": of_bool(lambda one: [i(int(one))]), "bool_repr": of_bool(lambda one: [t(repr(one))]),
+    "bool_and": of_two_bools(operator.and_), "bool_or": of_two_bools(operator.or_),
+    "bool_xor": of_two_bools(operator.xor),
 }

@@ -1,12 +1,17 @@
 """A plain reading of the matching rules, as docs/DEFINITIONS.md has them: which spans a tree has in a
 subject. It is slow, and shares nothing with the program and nothing with CPython's engine.
 
-`attempts` gives in order every way to pass a body, as the place where it ends and the closings of groups
-on the way, (group, start, end), the newest last. Trees are those of grammar.py.
+`attempts` gives in order every way to pass a body, as the place where it ends and the captures on the way,
+(group, start, end), the newest last. Trees are those of grammar.py.
 """
 import itertools
 
 import grammar
+from opcodes import (
+    AT_BEGINNING, AT_BEGINNING_LINE, AT_BEGINNING_STRING, AT_BOUNDARY, AT_END, AT_END_LINE, AT_END_STRING,
+    AT_NON_BOUNDARY, AT_UNI_BOUNDARY, CATEGORY_DIGIT, CATEGORY_LINEBREAK, CATEGORY_SPACE, CATEGORY_UNI_DIGIT,
+    CATEGORY_UNI_LINEBREAK, CATEGORY_UNI_SPACE, CATEGORY_UNI_WORD, CATEGORY_WORD, LINE_FEED, MAXREPEAT,
+)
 
 
 class TooLong(Exception):
@@ -47,9 +52,9 @@ class Matcher:
     def ref(self, place, marks, g):
         span = span_of(marks, g)
         if span is not None:
-            copy = self.units[span[0]:span[1]]
-            if self.units[place:place + len(copy)] == copy:
-                yield place + len(copy), marks
+            captured = self.units[span[0]:span[1]]
+            if self.units[place:place + len(captured)] == captured:
+                yield place + len(captured), marks
 
     def exists(self, place, marks, g, yes, no):
         chosen = yes if span_of(marks, g) is not None else no or []
@@ -66,10 +71,10 @@ class Matcher:
 
     def mandatory(self, body, kind, lo, hi, place, marks):
         if lo == 0:
-            left = len(self.units) + 2 if hi == grammar.MOST else hi
+            left = len(self.units) + 2 if hi == MAXREPEAT else hi
             yield from self.optional(body, kind, left, None, place, marks)
             return
-        top = hi if hi == grammar.MOST else hi - 1
+        top = hi if hi == MAXREPEAT else hi - 1
         for end, closed in self.attempts(body, place, marks):
             yield from self.mandatory(body, kind, lo - 1, top, end, closed)
 
@@ -95,23 +100,23 @@ class Matcher:
 
     def is_at(self, k, place):
         units, count = self.units, len(self.units)
-        if k in (0, 2):
+        if k in (AT_BEGINNING, AT_BEGINNING_STRING):
             return place == 0
-        if k == 1:
-            return place == 0 or units[place - 1] == 10
-        if k == 5:
-            return place == count or (place == count - 1 and units[place] == 10)
-        if k == 6:
-            return place == count or units[place] == 10
-        if k == 7:
+        if k == AT_BEGINNING_LINE:
+            return place == 0 or units[place - 1] == LINE_FEED
+        if k == AT_END:
+            return place == count or (place == count - 1 and units[place] == LINE_FEED)
+        if k == AT_END_LINE:
+            return place == count or units[place] == LINE_FEED
+        if k == AT_END_STRING:
             return place == count
-        category = 4 if k in (3, 4) else 14
+        category = CATEGORY_WORD if k in (AT_BOUNDARY, AT_NON_BOUNDARY) else CATEGORY_UNI_WORD
         before = place > 0 and in_category(category, units[place - 1])
         after = place < count and in_category(category, units[place])
-        return (before != after) == (k in (3, 10))
+        return (before != after) == (k in (AT_BOUNDARY, AT_UNI_BOUNDARY))
 
     def spans(self, body, limit=0):
-        """The spans, each as (start, end, closings)."""
+        """The spans, each as (start, end, captures)."""
         found, begin, after_empty = [], 0, False
         while limit == 0 or len(found) < limit:
             span = self.next_span(body, begin, after_empty)
@@ -130,14 +135,14 @@ class Matcher:
 
 
 def span_of(marks, g):
-    """The span of a group: that of its last closing."""
+    """The span of a group: that of its last capture."""
     return next(((start, end) for h, start, end in reversed(marks) if h == g), None)
 
 
 def holds(node, unit):
     name, *rest = node
     if name == "any":
-        return unit != 10
+        return unit != LINE_FEED
     if name == "any_all":
         return True
     if name in ("lit", "not_lit"):
@@ -173,31 +178,31 @@ def in_category(k, unit):
     by their general category."""
     c, ascii_only = chr(unit), unit < 128
     even = {
-        0: lambda: ascii_only and c.isdigit(),
-        2: lambda: 9 <= unit <= 13 or unit == 32,
-        4: lambda: ascii_only and (c.isalnum() or c == "_"),
-        6: lambda: unit == 10,
-        10: c.isdecimal,
-        12: c.isspace,
-        14: lambda: c.isalnum() or c == "_",
-        16: lambda: len(c.splitlines()[0]) == 0,
+        CATEGORY_DIGIT: lambda: ascii_only and c.isdigit(),
+        CATEGORY_SPACE: lambda: c in " \t\n\v\f\r",
+        CATEGORY_WORD: lambda: ascii_only and (c.isalnum() or c == "_"),
+        CATEGORY_LINEBREAK: lambda: unit == LINE_FEED,
+        CATEGORY_UNI_DIGIT: c.isdecimal,
+        CATEGORY_UNI_SPACE: c.isspace,
+        CATEGORY_UNI_WORD: lambda: c.isalnum() or c == "_",
+        CATEGORY_UNI_LINEBREAK: lambda: len(c.splitlines()[0]) == 0,
     }
     return even[k - k % 2]() != (k % 2 == 1)
 
 
 def substituted(body, subject, items, limit=0, turns=200_000):
-    """What `sub` answers: the subject with its spans replaced by the list, and how many they were."""
-    made, behind = [], 0
+    """What `sub` answers: the subject with its spans replaced by the template, and how many they were."""
+    made, done = [], 0
     try:
         spans = Matcher(subject, turns).spans(body, limit)
     except RecursionError:
         raise TooLong from None
     for start, end, marks in spans:
-        made.append(subject[behind:start])
+        made.append(subject[done:start])
         for item in items:
             made.append(item if isinstance(item, str) else text_of_group(subject, item, start, end, marks))
-        behind = end
-    return "".join(made) + subject[behind:], len(spans)
+        done = end
+    return "".join(made) + subject[done:], len(spans)
 
 
 def text_of_group(subject, g, start, end, marks):

@@ -8,7 +8,7 @@ import sys
 
 import code_reader
 import formats
-import grammar
+import opcodes
 
 MAGIC = 20220615  # of CPython 3.11's engine
 FLAGS = {"a": re.ASCII, "m": re.MULTILINE, "s": re.DOTALL, "x": re.VERBOSE, "u": re.UNICODE}
@@ -31,7 +31,7 @@ def what_is_missing():
 
         if _sre.MAGIC != MAGIC or _sre.CODESIZE != 4:
             return "its engine has other words than CPython 3.11's"
-        for name, number in grammar.OPCODES.items():
+        for name, number in {**opcodes.OPCODES, **opcodes.ANCHORS, **opcodes.CATEGORIES}.items():
             if int(getattr(_constants, name, -1)) != number:
                 return f"its number of {name} is not {number}, as in docs/FORMATS.md"
         return None
@@ -62,11 +62,11 @@ class Compiled:
             parsed = _parser.parse(pattern, int(flags))
             self.words = [int(word) for word in _compiler._code(parsed, int(flags))]
         except (re.error, ValueError, OverflowError, RecursionError) as fault:
-            raise PatternError(f"CPython refuses the pattern: {fault}") from None
+            raise PatternError(f"CPython does not compile the pattern: {fault}") from None
         self.flags = int(flags) | parsed.state.flags
         self.groups = parsed.state.groups - 1
         self.groupindex = dict(parsed.state.groupdict)
-        refuse_left_out(self.flags)
+        check_flags(self.flags)
         try:
             self.body = code_reader.read(self.words, self.groups)
         except code_reader.NoTree as fault:
@@ -79,7 +79,7 @@ class Compiled:
         try:
             places, literals = _parser.parse_template(replacement, self)
         except (re.error, IndexError) as fault:
-            raise PatternError(f"CPython refuses the replacement: {fault}") from None
+            raise PatternError(f"CPython does not take the replacement: {fault}") from None
         items = [""]
         numbers = dict(places)
         for place, literal in enumerate(literals):
@@ -93,7 +93,7 @@ class Compiled:
         return engine(self.words, self.groups)
 
 
-def refuse_left_out(flags):
+def check_flags(flags):
     for letter, name in LEFT_OUT.items():
         if flags & getattr(re, name):
             raise PatternError(f"the flag {letter} ({name}) is not in the grammar of code words")

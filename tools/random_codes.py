@@ -1,5 +1,6 @@
 """Trees of every kind of node, with subjects and lists, made by chance from a seed."""
 import grammar
+from opcodes import MAXREPEAT
 
 LETTERS = "aaaaabbbbcx1 \n_é\U0001F600"
 FEW = "aab"  # of which more matches, and longer
@@ -8,7 +9,7 @@ DEPTH = 3
 
 class Maker:
     """Makes one tree. Where it is `tame`, groups have different numbers in the order in which they begin,
-    and no copy of a group and no condition on it stands inside the group."""
+    and no back reference to a group and no conditional on it is inside the group."""
 
     def __init__(self, chance, tame, letters):
         self.chance, self.tame, self.letters = chance, tame, letters
@@ -60,7 +61,7 @@ class Maker:
             return ("category", self.chance.choice(grammar.CATEGORIES))
         if kind == "bits":
             return ("bits", self.bits())
-        # The map names blocks that are there: CPython refuses other ones.
+        # The map names blocks that are there: CPython takes no other ones.
         count = self.chance.randint(1, 3)
         table = [sum(self.chance.randrange(count) << 8 * i for i in range(4)) for _ in range(64)]
         return ("blocks", table, [word for _ in range(count) for word in self.bits()])
@@ -99,7 +100,7 @@ class Maker:
 
     def counts(self):
         lo = self.chance.choice([0, 0, 0, 1, 1, 2])
-        return lo, self.chance.choice([grammar.MOST, grammar.MOST, lo, lo + 1, lo + 2])
+        return lo, self.chance.choice([MAXREPEAT, MAXREPEAT, lo, lo + 1, lo + 2])
 
     def repeat(self, depth):
         kind = self.chance.choice(["greedy", "greedy", "lazy", "possessive"])

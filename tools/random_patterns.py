@@ -1,4 +1,4 @@
-"""Patterns of Python made by chance. Some are refused by CPython, as a look-behind without a fixed width."""
+"""Patterns of Python made by chance. Some CPython does not compile, as a lookbehind without a fixed width."""
 
 LETTERS = "aaabbc"
 DEPTH = 3

@@ -15,7 +15,7 @@ Examples:
     python3 tools/request.py sub '^#.*$' '' --flags m --file notes.txt > notes.request
 
 Ends with 0, or with 2 and a line on standard error where there is no such request: the pattern or the
-replacement is refused by CPython, the pattern ignores case or uses the locale, the file is not UTF-8,
+replacement is none for CPython, the pattern ignores case or uses the locale, the file is not UTF-8,
 the request is longer than 16,777,216 bytes, or this is not CPython 3.11.
 """
 import argparse
@@ -78,20 +78,20 @@ def main(words=None):
     asked = parser_of_all().parse_args(words)
     missing = python_regex.what_is_missing()
     if missing:
-        return refused(f"this Python cannot be used: {missing}")
+        return failed(f"this Python cannot be used: {missing}")
     try:
         made = asked.request(asked)
     except (python_regex.PatternError, formats.FormatError) as fault:
-        return refused(fault)
+        return failed(fault)
     except UnicodeDecodeError as fault:
-        return refused(f"the subject is not UTF-8: {fault.reason} at byte {fault.start}")
+        return failed(f"the subject is not UTF-8: {fault.reason} at byte {fault.start}")
     except OSError as fault:
-        return refused(f"{fault.filename}: {fault.strerror}")
+        return failed(f"{fault.filename}: {fault.strerror}")
     sys.stdout.buffer.write(made)
     return 0
 
 
-def refused(why):
+def failed(why):
     print(f"request.py: {why}", file=sys.stderr)
     return 2
 

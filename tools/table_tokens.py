@@ -24,3 +24,16 @@ def texts(items):
 
 def error(name):
     return ["error", name]
+
+
+class Instead(list):
+    """An answer that is not CPython's own, and what CPython gives."""
+
+    def __init__(self, tokens, given):
+        super().__init__(tokens)
+        self.given = given
+
+
+def instead(name, given):
+    """An error that is in the place of what CPython gives."""
+    return Instead(error(name), given)

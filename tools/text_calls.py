@@ -1,10 +1,10 @@
 """Calls on texts, made by chance, with CPython's answers."""
-from table_tokens import error, i, optional, t, texts
+from table_tokens import b, error, i, optional, t, texts
 
 EDGES = (-(2**127), -(2**63), 2**63 - 1, 2**63, 2**127 - 1)
 ALPHABETS = ("ab", "abc", "éa", "\U0001F600a", "aé\U0001F600", "à é", "xyz ")
-# Text.split without a separator cuts at these alone here; CPython cuts at U+001C and others as well.
-BLANKS = "ab \t\n\v\f\ré"
+# Without a separator `split` cuts at ASCII whitespace here; CPython cuts at U+001C and others as well.
+WHITESPACE = "ab \t\n\v\f\ré"
 LINE_ENDS = "ab\n\r\v\f\x1c\x1d\x1e\x85\u2028\u2029é"
 FRENCH = ("L'été dernier", "« C'est parfait », dit-elle", "le cœur zélé", "là-bas, près de la forêt", "ÀÉÎŒ")
 
@@ -75,20 +75,36 @@ def lengths(chance):
     return [t(one)], [i(len(one)), i(len(one.encode("utf-8"))), i(one.isascii())]
 
 
+def some_bytes(chance, most=6):
+    return bytes(chance.choice([0, 1, 127, 128, 255, chance.randrange(256)]) for _ in range(chance.randint(0, most)))
+
+
+def compare_bytes(chance):
+    one = some_bytes(chance)
+    other = chance.choice([one, one + some_bytes(chance, 2), one[:-1] + some_bytes(chance, 1), some_bytes(chance)])
+    return [b(one), b(other)], [i((one > other) - (one < other))]
+
+
+def bytes_len(chance):
+    one = some_bytes(chance)
+    return [b(one)], [i(len(one))]
+
+
 SEARCHES = {
     "find": searched("find", i), "rfind": searched("rfind", i), "index": searched("index", i),
     "rindex": searched("rindex", i), "count": searched("count", i),
     "startswith": searched("startswith", i), "endswith": searched("endswith", i),
     "contains": contains, "compare": compare, "lengths": lengths,
+    "compare_bytes": compare_bytes, "bytes_len": bytes_len,
 }
 
 
 def cut_at(name):
-    """`split` and `rsplit`: by a separator, or at blanks."""
+    """`split` and `rsplit`: by a separator, or at whitespace."""
     def make(chance):
         most = chance.choice([-1, -1, -1, -2, 0, 1, 2, 3, 2**63 - 1, -(2**63)])
         if chance.random() < 0.4:
-            subject, separator = text(chance, BLANKS), None
+            subject, separator = text(chance, WHITESPACE), None
         else:
             subject = text(chance)
             separator = part_of(chance, subject)
@@ -201,9 +217,27 @@ def iterate(chance):
     return [t(subject), f"l{len(asked)}", *asked], [f"l{len(answers)}", *answers]
 
 
+def inside(chance):
+    """An index that lies in the text."""
+    subject = text(chance) or "a"
+    at = chance.randrange(len(subject))
+    return [t(subject), i(at)], [t(subject[at])]
+
+
+def reduced(chance):
+    """Where an iterator is after some steps: its text and its place, or nothing where it is exhausted."""
+    subject = text(chance, most=5)
+    walker, steps = iter(subject), chance.randint(0, len(subject) + 2)
+    for _ in range(steps):
+        next(walker, None)
+    _, arguments, *place = walker.__reduce__()
+    return [t(subject), i(steps)], [t(arguments[0]), i(place[0])] if place else ["-"]
+
+
 SLICES = {
     "getitem_by_index": by_index, "getitem_by_slice": by_slice,
     "do_slice": sliced(False, False), "do_slice_reverse": sliced(True, False),
     "do_stepped_slice": sliced(False, True), "do_stepped_slice_reverse": sliced(True, True),
     "add": add, "mul": multiply, "iterate": iterate,
+    "append": add, "concat_in_place": add, "do_get": inside, "get_chars": sliced(False, False), "reduce": reduced,
 }

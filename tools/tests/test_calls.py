@@ -11,7 +11,7 @@ sys.path.insert(0, str(BENCH))
 
 import calls  # noqa: E402
 
-needs_program = unittest.skipUnless(os.access(calls.PROGRAM, os.X_OK), "crates/calls is not built")
+needs_program = unittest.skipUnless(os.access(calls.PROGRAM, os.X_OK), "crates/bench_driver is not built")
 
 
 def run(*words):
@@ -27,7 +27,7 @@ class Texts(unittest.TestCase):
             self.assertEqual([len(block), block.count(word), block.count(other), block.count(last)], [100, 1, 0, 0])
 
     def test_the_stored_run_prints_the_sum_of_cpython(self):
-        crate = TOP / "crates" / "calls"
+        crate = TOP / "crates" / "bench_driver"
         case, size, times = (crate / "args").read_text("ascii").split()
         total = calls.cpython(case, int(size))(int(times))
         self.assertEqual((crate / "stdout").read_text("ascii"), f"{case} {times} {total}\n")
@@ -39,10 +39,11 @@ class Runs(unittest.TestCase):
         for sizes in (["0", "3"], ["120", "1000"]):
             status, table = run("--sizes", *sizes)
             self.assertEqual(status, 0, table)
-            self.assertEqual(len(table.splitlines()), 1 + 10 * 2 + 4)
+            self.assertEqual(len(table.splitlines()), 1 + 22 * 2 + 4)
 
     def test_words_that_are_no_request_are_refused(self):
-        for words in ([], ["modpow"], ["find", "1", "1"], ["find_ascii", "-1", "1"], ["repr", "0", "1", "2"]):
+        for words in ([], ["modpow"], ["find", "1", "1"], ["find_ascii", "-1", "1"], ["repr", "0", "1", "2"],
+                      ["repr", b"\xff", "1"]):
             done = subprocess.run([calls.PROGRAM, *words], capture_output=True)
             self.assertEqual([done.returncode, done.stdout, done.stderr.count(b"\n")], [2, b"", 1], words)
 

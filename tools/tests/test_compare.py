@@ -5,23 +5,23 @@ from unittest import mock
 from support import TOP, needs_cpython, run
 
 import code_reader
+import comparison
 import differences
-import grammar
-import judge
+import opcodes
 
 
 def case_of(words, subject, groups=0, items=("<", 0, ">")):
     body = code_reader.read(words, groups)
-    return judge.Case("test", body, words, groups, list(items), subject)
+    return comparison.Case("test", body, words, groups, list(items), subject)
 
 
 def verdict(case, answer):
-    with mock.patch.object(judge, "by_program", lambda program, case: answer):
-        return judge.judged("", case)[0]
+    with mock.patch.object(comparison, "by_program", lambda program, case: answer):
+        return comparison.compared("", case)[0]
 
 
 @needs_cpython
-class Judged(unittest.TestCase):
+class Compared(unittest.TestCase):
     def test_the_same_answer_agrees(self):
         self.assertEqual(verdict(case_of([16, 97, 1], "aa"), ("<a><a>", 2)), "agree")
 
@@ -41,30 +41,30 @@ class Judged(unittest.TestCase):
 
     def test_groups_are_looked_at(self):
         test = ("exists", 1, [("lit", 97)], [("lit", 98)])
-        inside = [("repeat", "greedy", False, 0, grammar.MOST, [("group", 1, [test]), ("lit", 120)])]
+        inside = [("repeat", "greedy", False, 0, opcodes.MAXREPEAT, [("group", 1, [test]), ("lit", 120)])]
         self.assertEqual(differences.reason(inside, "bxax"), "group_in_itself")
         self.assertIsNone(differences.reason([("group", 1, []), test], "bxax"))
         self.assertEqual(differences.reason([("group", 2, []), ("group", 1, [])], "a"), "group_order")
 
     def test_a_difference_that_is_not_listed_is_told(self):
         case = case_of([16, 97, 1], "a")
-        with mock.patch.object(judge, "by_cpython", lambda case: ("a", 0)):
+        with mock.patch.object(comparison, "by_cpython", lambda case: ("a", 0)):
             self.assertEqual(verdict(case, ("<a>", 1)), "NOT LISTED")
 
     def test_words_that_spell_no_tree_have_no_answer(self):
-        case = judge.Case("test", None, [16, 97], 0, [""], "")
-        self.assertEqual(judge.by_rules(case), "status 1: error invalid_code")
+        case = comparison.Case("test", None, [16, 97], 0, [""], "")
+        self.assertEqual(comparison.by_rules(case), "status 1: error invalid_code")
 
 
 class Page(unittest.TestCase):
-    def test_each_name_stands_in_the_documents(self):
+    def test_each_name_is_in_the_documents(self):
         page = (TOP / "docs" / "DIFFERENCES.md").read_text(encoding="utf-8")
         for name in (*differences.REASONS, *differences.REASONS_OF_CHARACTERS):
             self.assertIn(f"`{name}`", page)
 
 
 class Command(unittest.TestCase):
-    def test_without_a_program_it_is_left_out_or_refused(self):
+    def test_without_a_program_it_is_left_out_or_cannot_run(self):
         self.assertEqual(run("compare_cpython.py", "--program", "there-is-none")[:2], (2, b""))
         status, out, errors = run("compare_cpython.py", "--program", "there-is-none", "--or-skip")
         self.assertEqual((status, out), (0, b""))

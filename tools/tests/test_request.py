@@ -13,7 +13,7 @@ class Request(unittest.TestCase):
         self.assertEqual((status, errors), (0, ""))
         return dict(line.split(" ", 1) for line in out.decode("ascii").splitlines())
 
-    def refusal(self, *words, stdin=b""):
+    def error_of(self, *words, stdin=b""):
         status, out, errors = run("request.py", "sub", *words, stdin=stdin)
         self.assertEqual((status, out), (2, b""))
         return errors
@@ -35,20 +35,20 @@ class Request(unittest.TestCase):
         given = "é\r\n".encode()
         self.assertEqual(self.request("a", "", "--file", "-", stdin=given)["subject"], formats.text_token("é\r\n"))
 
-    def test_what_the_grammar_leaves_out_is_refused(self):
-        self.assertIn("IGNORECASE", self.refusal("(?i)a", "", "--text", ""))
-        self.assertIn("IGNORECASE", self.refusal("a", "", "--text", "", "--flags", "i"))
-        self.assertIn("ignores case", self.refusal("(?i:a)b", "", "--text", ""))
-        self.assertIn("LOCALE", self.refusal("a", "", "--text", "", "--flags", "L"))
+    def test_what_the_grammar_leaves_out_has_no_request(self):
+        self.assertIn("IGNORECASE", self.error_of("(?i)a", "", "--text", ""))
+        self.assertIn("IGNORECASE", self.error_of("a", "", "--text", "", "--flags", "i"))
+        self.assertIn("ignores case", self.error_of("(?i:a)b", "", "--text", ""))
+        self.assertIn("LOCALE", self.error_of("a", "", "--text", "", "--flags", "L"))
 
     def test_other_faults_are_told(self):
-        self.assertIn("refuses the pattern: missing )", self.refusal("(", "", "--text", ""))
-        self.assertIn("invalid group reference 1", self.refusal("a", r"\1", "--text", ""))
-        self.assertIn("unknown group name 'x'", self.refusal("a", r"\g<x>", "--text", ""))
-        self.assertIn("the limit is", self.refusal("a", "", "--text", "", "--limit", "-1"))
-        self.assertIn("is not UTF-8", self.refusal("a", "", "--file", "-", stdin=b"a\xff"))
-        self.assertIn("No such file", self.refusal("a", "", "--file", "there-is-none"))
-        self.assertIn("no flag 'q'", self.refusal("a", "", "--text", "", "--flags", "q"))
+        self.assertIn("does not compile the pattern: missing )", self.error_of("(", "", "--text", ""))
+        self.assertIn("invalid group reference 1", self.error_of("a", r"\1", "--text", ""))
+        self.assertIn("unknown group name 'x'", self.error_of("a", r"\g<x>", "--text", ""))
+        self.assertIn("the limit is", self.error_of("a", "", "--text", "", "--limit", "-1"))
+        self.assertIn("is not UTF-8", self.error_of("a", "", "--file", "-", stdin=b"a\xff"))
+        self.assertIn("No such file", self.error_of("a", "", "--file", "there-is-none"))
+        self.assertIn("no flag 'q'", self.error_of("a", "", "--text", "", "--flags", "q"))
 
     def test_help_has_examples(self):
         for words in (["--help"], ["sub", "--help"]):

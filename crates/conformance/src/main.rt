@@ -1,31 +1,18 @@
-//! Makes the calls of the tables in `data/`, and tells how many answers are those of the tables.
+//! Makes the calls of the tables in `data/`, and tells how many answers are CPython's.
 #![tactic(auto)]
 
-mod answers;
-mod arguments;
-mod fault;
-mod forms;
-mod numbers;
-mod pieces;
-mod report;
-mod searches;
-mod slices;
-mod table;
-#[cfg(test)]
-mod tests;
-
-use crate::report::Report;
-use crate::table::{Table, add_table};
+use call_tables::{Report, Table, add_table};
 use std::process::ExitCode;
 use std::{fs, io};
 
 // The tables, each with the file that holds it.
-const TABLES: [(&str, Table); 5] = [
+const TABLES: [(&str, Table); 6] = [
     ("texts.table", Table::Searches),
     ("pieces.table", Table::Pieces),
     ("slices.table", Table::Slices),
     ("numbers.table", Table::Numbers),
     ("forms.table", Table::Forms),
+    ("values.table", Table::Values),
 ];
 
 fn main(rt: HostRuntime) -> io::Result<ExitCode> {
@@ -36,9 +23,5 @@ fn main(rt: HostRuntime) -> io::Result<ExitCode> {
     }
     report.end()?;
     rt.print(report.text())?;
-    Ok(if report.is_clean() {
-        ExitCode::SUCCESS
-    } else {
-        ExitCode::from(1)
-    })
+    Ok(report.exit_code())
 }

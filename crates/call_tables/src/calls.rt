@@ -1,0 +1,58 @@
+//! The calls of the tables, by their subject.
+
+pub mod forms;
+pub mod numbers;
+pub mod pieces;
+pub mod searches;
+pub mod slices;
+pub mod values;
+
+use crate::fault::Fault;
+use crate::token::Token;
+use py_int::PyInt;
+use std::cmp::Ordering;
+
+// A number, or none.
+fn optional(token: &Token) -> Result<Option<i128>, Fault> {
+    match token {
+        Token::Int(number) => Ok(Some(*number)),
+        Token::Missing => Ok(None),
+        _ => Err(Fault::BadArguments),
+    }
+}
+
+// An integer, or none.
+fn optional_int(token: &Token) -> Result<Option<PyInt>, Fault> {
+    match token {
+        Token::Int(number) => Ok(Some(PyInt::from(*number))),
+        Token::Missing => Ok(None),
+        _ => Err(Fault::BadArguments),
+    }
+}
+
+// A number that is a place or a length.
+fn size(number: i128) -> Result<usize, Fault> {
+    usize::try_from(number).map_err(|_| Fault::BadArguments)
+}
+
+// A number of 64 bits, with a sign.
+fn signed(number: i128) -> Result<isize, Fault> {
+    isize::try_from(number).map_err(|_| Fault::BadArguments)
+}
+
+// -1, 0 or 1.
+fn order_number(order: Ordering) -> i128 {
+    match order {
+        Ordering::Less => -1,
+        Ordering::Equal => 0,
+        Ordering::Greater => 1,
+    }
+}
+
+fn flag(number: i128) -> Result<bool, Fault> {
+    match number {
+        0 => Ok(false),
+        1 => Ok(true),
+        _ => Err(Fault::BadArguments),
+    }
+}

@@ -1,0 +1,102 @@
+//! Calls that calculate with integers.
+
+use super::{optional_int, order_number};
+use crate::fault::Fault;
+use crate::results::{Outcome, int, ints, number};
+use crate::token::Token;
+use py_base::PyResult;
+use py_int::PyInt;
+use std::alloc::Global;
+
+/// A call of the table `numbers`.
+pub fn answer(alloc: Global, name: &str, arguments: &[Token]) -> Outcome {
+    match arguments {
+        [Token::Int(one)] => of_one(alloc, name, PyInt::from(*one)),
+        [Token::Int(one), other] => {
+            with_optional(alloc, name, PyInt::from(*one), optional_int(other)?)
+        }
+        [Token::Int(one), Token::Int(exponent), modulus] => {
+            let exponent = PyInt::from(*exponent);
+            power(
+                alloc,
+                name,
+                PyInt::from(*one),
+                exponent,
+                optional_int(modulus)?,
+            )
+        }
+        _ => Err(Fault::BadArguments),
+    }
+}
+
+fn of_one(alloc: Global, name: &str, one: PyInt) -> Outcome {
+    match name {
+        "invert" => int(alloc, Ok(one.invert())),
+        "neg" => int(alloc, one.neg()),
+        "abs" => int(alloc, one.abs()),
+        _ => Err(Fault::NoCall),
+    }
+}
+
+fn with_optional(alloc: Global, name: &str, one: PyInt, other: Option<PyInt>) -> Outcome {
+    match (name, other) {
+        ("round", digits) => int(alloc, one.round(digits)),
+        (_, Some(other)) => of_two(alloc, name, one, other),
+        (_, None) => Err(Fault::BadArguments),
+    }
+}
+
+fn of_two(alloc: Global, name: &str, one: PyInt, other: PyInt) -> Outcome {
+    match name {
+        "divmod" => ints(alloc, one.divmod(other)),
+        "rdivmod" => ints(alloc, one.rdivmod(other)),
+        "compare" => number(alloc, order_number(one.cmp(&other))),
+        "and" => int(alloc, Ok(one.and(other))),
+        "or" => int(alloc, Ok(one.or(other))),
+        "xor" => int(alloc, Ok(one.xor(other))),
+        _ => match result_of(name, one, other) {
+            Some(result) => int(alloc, result),
+            None => Err(Fault::NoCall),
+        },
+    }
+}
+
+// A call that may fail.
+fn result_of(name: &str, one: PyInt, other: PyInt) -> Option<PyResult<PyInt>> {
+    match name {
+        "add" => Some(one.add(other)),
+        "sub" => Some(one.sub(other)),
+        "rsub" => Some(one.rsub(other)),
+        "mul" => Some(one.mul(other)),
+        "floordiv" => Some(one.floordiv(other)),
+        "rfloordiv" => Some(one.rfloordiv(other)),
+        "mod_" => Some(one.mod_(other)),
+        "rmod" => Some(one.rmod(other)),
+        _ => shift_of(name, one, other),
+    }
+}
+
+fn shift_of(name: &str, one: PyInt, other: PyInt) -> Option<PyResult<PyInt>> {
+    match name {
+        "lshift" => Some(one.lshift(other)),
+        "rlshift" => Some(one.rlshift(other)),
+        "rshift" => Some(one.rshift(other)),
+        "rrshift" => Some(one.rrshift(other)),
+        "rpow" => Some(one.rpow(other)),
+        _ => None,
+    }
+}
+
+fn power(
+    alloc: Global,
+    name: &str,
+    base: PyInt,
+    exponent: PyInt,
+    modulus: Option<PyInt>,
+) -> Outcome {
+    match (name, modulus) {
+        ("pow", modulus) => int(alloc, base.pow(exponent, modulus)),
+        ("modpow", Some(modulus)) => int(alloc, base.modpow(exponent, modulus)),
+        _ => Err(Fault::NoCall),
+    }
+}

@@ -1,0 +1,75 @@
+//! Calls that search in a text or compare two.
+
+use super::{optional, order_number};
+use crate::fault::Fault;
+use crate::results::{Outcome, copy_of, flag, number, place};
+use crate::token::Token;
+use py_text::{FindArgs, PyBytes, PyStr};
+use std::alloc::Global;
+
+/// A call of the table `texts`.
+pub fn answer(alloc: Global, name: &str, arguments: &[Token]) -> Outcome {
+    match arguments {
+        [Token::Text(text)] => of_text(alloc, name, text),
+        [Token::Text(text), Token::Text(other)] => of_two(alloc, name, text, other),
+        [Token::Bytes(bytes)] => of_bytes(alloc, name, bytes),
+        [Token::Bytes(one), Token::Bytes(other)] => of_two_bytes(alloc, name, one, other),
+        [Token::Text(text), Token::Text(part), start, end] => {
+            let args = FindArgs {
+                sub: copy_of(alloc, part)?,
+                start: optional(start)?,
+                end: optional(end)?,
+            };
+            in_window(alloc, name, text, &args)
+        }
+        _ => Err(Fault::BadArguments),
+    }
+}
+
+// Code points, bytes, and whether all is ASCII.
+fn of_text(alloc: Global, name: &str, text: &PyStr) -> Outcome {
+    if name != "lengths" {
+        return Err(Fault::NoCall);
+    }
+    let tokens = [
+        Token::Int(text.char_len() as i128),
+        Token::Int(text.byte_len() as i128),
+        Token::Int(i128::from(text.is_ascii())),
+    ];
+    Ok(Vec::from_array(alloc, tokens)?)
+}
+
+fn of_two(alloc: Global, name: &str, text: &PyStr, other: &PyStr) -> Outcome {
+    match name {
+        "contains" => flag(alloc, text.contains(other)),
+        "compare" => number(alloc, order_number(text.cmp(other))),
+        _ => Err(Fault::NoCall),
+    }
+}
+
+fn of_bytes(alloc: Global, name: &str, bytes: &PyBytes) -> Outcome {
+    match name {
+        "bytes_len" => number(alloc, bytes.len() as i128),
+        _ => Err(Fault::NoCall),
+    }
+}
+
+fn of_two_bytes(alloc: Global, name: &str, one: &PyBytes, other: &PyBytes) -> Outcome {
+    match name {
+        "compare_bytes" => number(alloc, order_number(one.cmp(other))),
+        _ => Err(Fault::NoCall),
+    }
+}
+
+fn in_window(alloc: Global, name: &str, text: &PyStr, args: &FindArgs) -> Outcome {
+    match name {
+        "find" => number(alloc, text.find(args) as i128),
+        "rfind" => number(alloc, text.rfind(args) as i128),
+        "count" => number(alloc, text.count(args) as i128),
+        "index" => place(alloc, text.index(args)),
+        "rindex" => place(alloc, text.rindex(args)),
+        "startswith" => flag(alloc, text.startswith(&args.sub, args.start, args.end)),
+        "endswith" => flag(alloc, text.endswith(&args.sub, args.start, args.end)),
+        _ => Err(Fault::NoCall),
+    }
+}

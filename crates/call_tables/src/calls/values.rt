@@ -1,0 +1,86 @@
+//! Calls that give an integer or a bool itself, a part of it, or its bool.
+
+use super::flag as bool_of;
+use crate::fault::Fault;
+use crate::results::{Outcome, flag, int, number, text};
+use crate::token::Token;
+use py_int::{PyBool, PyInt};
+use py_text::PyStr;
+use std::alloc::Global;
+
+/// A call of the table `values`.
+pub fn answer(alloc: Global, name: &str, arguments: &[Token]) -> Outcome {
+    match arguments {
+        [Token::Int(one)] => of_one(alloc, name, *one),
+        [Token::Int(one), Token::Int(other)] => {
+            let (one, other) = (PyBool::new(bool_of(*one)?), PyBool::new(bool_of(*other)?));
+            of_bools(alloc, name, one, other)
+        }
+        _ => Err(Fault::BadArguments),
+    }
+}
+
+fn of_one(alloc: Global, name: &str, one: i128) -> Outcome {
+    if let Some(same) = same_of(name, PyInt::from(one)) {
+        return int(alloc, Ok(same));
+    }
+    match name {
+        "bool_int" => int(alloc, Ok(PyBool::new(bool_of(one)?).as_int())),
+        "bool_repr" => text(
+            alloc,
+            PyStr::copy_of(alloc, PyBool::new(bool_of(one)?).repr()),
+        ),
+        _ => of_int(alloc, name, PyInt::from(one)),
+    }
+}
+
+// A call that gives the integer itself.
+fn same_of(name: &str, one: PyInt) -> Option<PyInt> {
+    match name {
+        "pos" => Some(one.pos()),
+        "int" => Some(one.int()),
+        "trunc" => Some(one.trunc()),
+        "floor" => Some(one.floor()),
+        "ceil" => Some(one.ceil()),
+        "index" => Some(one.index()),
+        _ => same_part(name, one),
+    }
+}
+
+fn same_part(name: &str, one: PyInt) -> Option<PyInt> {
+    match name {
+        "conjugate" => Some(one.conjugate()),
+        "real" => Some(one.real()),
+        "numerator" => Some(one.numerator()),
+        "getnewargs" => Some(one.getnewargs()),
+        _ => None,
+    }
+}
+
+fn of_int(alloc: Global, name: &str, one: PyInt) -> Outcome {
+    match name {
+        "imag" => number(alloc, one.imag() as i128),
+        "denominator" => number(alloc, one.denominator() as i128),
+        "as_integer_ratio" => ratio(alloc, one),
+        "bool" => flag(alloc, one.bool()),
+        _ => Err(Fault::NoCall),
+    }
+}
+
+fn ratio(alloc: Global, one: PyInt) -> Outcome {
+    let (numerator, denominator) = one.as_integer_ratio();
+    let tokens = [
+        Token::Int(numerator.as_i128()),
+        Token::Int(i128::from(denominator)),
+    ];
+    Ok(Vec::from_array(alloc, tokens)?)
+}
+
+fn of_bools(alloc: Global, name: &str, one: PyBool, other: PyBool) -> Outcome {
+    match name {
+        "bool_and" => flag(alloc, one.and(other).value()),
+        "bool_or" => flag(alloc, one.or(other).value()),
+        "bool_xor" => flag(alloc, one.xor(other).value()),
+        _ => Err(Fault::NoCall),
+    }
+}

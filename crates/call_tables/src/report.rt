@@ -1,0 +1,139 @@
+//! The report on calls: how many agree with CPython, by call, and each that does not.
+
+ghost use Rattle.std.specs.Prelude.{◌≡◌, ◌≢◌, ◌↔◌, IsTrue, OnOk, true, false};
+ghost use Rattle.std.specs.Process.{exit_status};
+ghost use Rattle.py_base.specs.Counts.{one_more};
+
+use std::alloc::{AllocError, Global};
+use std::process::ExitCode;
+
+/// Counts of calls and of those that agree. A count stops at its last number.
+#[derive(Clone, Copy, Debug)]
+pub struct Tally {
+    pub calls: u64,
+    pub agreeing: u64,
+}
+
+impl Tally {
+    const EMPTY: Tally = Tally {
+        calls: 0,
+        agreeing: 0,
+    };
+
+    // One more call, and whether it agrees.
+    fn add(&mut self, agrees: bool)
+        ensures calls { self.new.calls ≡ one_more self.old.calls }
+        ensures agreed { agrees ≡ true → self.new.agreeing ≡ one_more self.old.agreeing }
+        ensures differed { agrees ≡ false → self.new.agreeing ≡ self.old.agreeing }
+    {
+        self.calls = self.calls.saturating_add(1);
+        if agrees {
+            self.agreeing = self.agreeing.saturating_add(1);
+        }
+    }
+}
+
+/// The text of a report, the counts of the call whose lines are being read, and those of all.
+#[derive(Drop)]
+pub struct Report {
+    text: String,
+    call: String,
+    current: Tally,
+    pub all: Tally,
+}
+
+impl Report {
+    /// An empty report.
+    pub fn new(alloc: Global) -> Report
+        ensures calls { result.all.calls ≡ 0 }
+        ensures agreeing { result.all.agreeing ≡ 0 }
+    {
+        Report {
+            text: String::new(alloc),
+            call: String::new(alloc),
+            current: Tally::EMPTY,
+            all: Tally::EMPTY,
+        }
+    }
+
+    /// Begins the lines of a file.
+    pub fn begin(&mut self, file: &str) -> Result<(), AllocError>
+        ensures { self.new.all ≡ self.old.all }
+    {
+        self.end_call()?;
+        write!(self.text, "{file}\n")
+    }
+
+    /// Adds a line: the call's name, the whole line, the answer that it wants, and what the call gives.
+    pub fn add(
+        &mut self,
+        name: &str,
+        line: &str,
+        wanted: &str,
+        given: &str,
+    ) -> Result<(), AllocError>
+        ensures calls { OnOk result (self.new.all.calls ≡ one_more self.old.all.calls) }
+        ensures agreed { wanted.now ≡ given.now →
+            OnOk result (self.new.all.agreeing ≡ one_more self.old.all.agreeing) }
+        ensures differed { wanted.now ≢ given.now →
+            OnOk result (self.new.all.agreeing ≡ self.old.all.agreeing) }
+    {
+        if self.call.as_str() != name {
+            self.end_call()?;
+            self.call.push_str(name)?;
+        }
+        let agrees = wanted == given;
+        self.current.add(agrees);
+        self.all.add(agrees);
+        if !agrees {
+            write!(self.text, "  differs: {line}\n    gives{given}\n")?;
+        }
+        Ok(())
+    }
+
+    // Writes the counts of the call whose lines have ended, if there is one.
+    fn end_call(&mut self) -> Result<(), AllocError>
+        ensures { self.new.all ≡ self.old.all }
+    {
+        if self.current.calls > 0 {
+            let call = self.call.as_str();
+            let Tally { calls, agreeing } = self.current;
+            write!(self.text, "  {call} {agreeing} of {calls}\n")?;
+        }
+        self.call.clear();
+        self.current = Tally::EMPTY;
+        Ok(())
+    }
+
+    /// Writes the counts of all.
+    pub fn end(&mut self) -> Result<(), AllocError>
+        ensures { self.new.all ≡ self.old.all }
+    {
+        self.end_call()?;
+        let Tally { calls, agreeing } = self.all;
+        write!(self.text, "{agreeing} of {calls} calls agree\n")
+    }
+
+    /// The text of the report.
+    pub fn text(&self) -> &str {
+        self.text.as_str()
+    }
+
+    /// Whether each call agrees.
+    pub fn is_clean(&self) -> bool
+        ensures { IsTrue result ↔ (self.now.all.calls ≡ self.now.all.agreeing) }
+    {
+        self.all.calls == self.all.agreeing
+    }
+
+    /// The status of a program that prints the report: 0 or 1.
+    pub fn exit_code(&self) -> ExitCode
+        ensures { (exit_status result ≡ 0) ↔ (self.now.all.calls ≡ self.now.all.agreeing) }
+    {
+        if self.is_clean() {
+            ExitCode::SUCCESS
+        } else {
+            ExitCode::FAILURE
+        }
+    }
+}

@@ -1,0 +1,61 @@
+//! What the command line asks for: a call, the size of its text, and how often it is made.
+
+use crate::numbers::NumberCall;
+use crate::sample_texts::Language;
+use crate::searches::SearchCall;
+use crate::texts::TextCall;
+use crate::{numbers, searches, texts};
+use py_base::PyResult;
+use std::alloc::Global;
+
+/// A call on a text in a language, or on integers.
+#[derive(Clone, Copy, Debug, PartialEq, Eq)]
+pub enum Call {
+    Search(SearchCall, Language),
+    OnText(TextCall, Language),
+    OnNumbers(NumberCall),
+}
+
+impl Call {
+    // The call of a name, as `find_ascii` or `modpow`.
+    fn of_name(name: &str) -> Option<Call> {
+        if let Some(call) = NumberCall::of_name(name) {
+            return Some(Call::OnNumbers(call));
+        }
+        let (call, language) = name.split_once('_')?;
+        let language = Language::of_name(language)?;
+        match SearchCall::of_name(call) {
+            Some(call) => Some(Call::Search(call, language)),
+            None => Some(Call::OnText(TextCall::of_name(call)?, language)),
+        }
+    }
+}
+
+/// A call, how many code points its text has (a call on integers has none), and how often it is made.
+#[derive(Clone, Copy, Debug, PartialEq, Eq)]
+pub struct Request {
+    pub call: Call,
+    pub size: u32,
+    pub times: u32,
+}
+
+impl Request {
+    /// The request of three words: the call's name, the size, and how often.
+    pub fn of_words(name: &str, size: &str, times: &str) -> Option<Request> {
+        Some(Request {
+            call: Call::of_name(name)?,
+            size: size.parse::<u32>().ok()?,
+            times: times.parse::<u32>().ok()?,
+        })
+    }
+
+    /// The sum of what the calls give.
+    pub fn sum(&self, alloc: Global) -> PyResult<i128> {
+        let Request { call, size, times } = *self;
+        match call {
+            Call::Search(call, language) => searches::sum(alloc, call, language, size, times),
+            Call::OnText(call, language) => texts::sum(alloc, call, language, size, times),
+            Call::OnNumbers(call) => numbers::sum(alloc, call, times),
+        }
+    }
+}
