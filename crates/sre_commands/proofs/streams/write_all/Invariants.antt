@@ -1,0 +1,13 @@
+use Rattle.std.proofs.Common.{◌≤◌, ◌-◌, length, take}
+use Rattle.std.specs.Io.KnownBytes.{Appends}
+use Rattle.sre_commands.proofs.streams.write_all.Given as goal
+
+abbrev pub invariant-loop-written : goal.invariant-loop-written
+invariant-loop-written g l = record {
+  written : Appends (g.K.Sink.contents l.fn.sink) (g.K.Sink.contents l.sink) (take l.written l.bytes);
+  later : g.K.Sink.faults l.fn.sink ≤ g.K.Sink.faults l.sink;
+  within : l.written ≤ length l.bytes;
+}
+
+abbrev pub decreases-loop-written : goal.decreases-loop-written
+decreases-loop-written g l = length l.bytes - l.written

@@ -1,0 +1,4 @@
+pub mod Template
+pub mod Request
+pub mod Lines
+pub mod Answer

@@ -1,0 +1,16 @@
+-- What an answered request means.
+use Rattle.std.specs.Prelude.{ℕ, List}
+use Rattle.sre_code.specs.PlainTree.{PlainTree}
+use Rattle.sre_code.specs.Spelling.{Spells}
+use Rattle.sre_commands.specs.Commands.Sub.Request.{Request, IsRequest, text_of}
+use Rattle.sre_commands.specs.Commands.Sub.Answer.{answer_of}
+use Rattle.sre_commands.specs.Streams.{Reading, Writing, ReadWhole, Wrote}
+
+-- The source was read to its end as one request. What was written is the subject with its spans replaced, all else kept, and how many there were: each span is the leftmost next first allowed outcome of the one tree that the request's code words spell, until none is left or a limit other than 0 is reached.
+pub record IsAnswered (reading : Reading) (writing : Writing) : Type 0 where
+  pub request : Request
+  pub is_request : IsRequest request
+  pub read : ReadWhole reading (text_of request)
+  pub tree : PlainTree
+  pub spells : Spells request.words request.groups tree
+  pub written : Wrote writing (answer_of request tree)

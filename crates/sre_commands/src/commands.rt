@@ -1,0 +1,3 @@
+//! The commands, each with its requests and answers.
+
+pub mod sub;

@@ -1,0 +1,7 @@
+//! Substitution: a code, a subject, and a replacement template that is filled for each span found.
+
+pub mod answer;
+mod filling;
+mod lines;
+pub mod request;
+pub mod template;

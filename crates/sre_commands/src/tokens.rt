@@ -1,0 +1,4 @@
+//! The tokens of requests and answers.
+
+pub mod number;
+pub mod text;

@@ -1,7 +1,0 @@
-use Rattle.std.proofs.Common.{◌≡◌, ◌++◌, map, drop}
-use Rattle.sre_match.specs.Filling.{fill, fill_pairs}
-use Rattle.sre_program.specs.Substitution.{pair_of, replacement_of}
-use Rattle.sre_program.proofs.filling.fill.Given as goal
-
-abbrev pub invariant-loop-pair : goal.invariant-loop-pair
-invariant-loop-pair l = l.units.items ++ fill_pairs (map pair_of (drop l.pair-index l.template.pairs.items)) l.subject l.state ≡ l.fn.units.items ++ fill (replacement_of l.template) l.subject l.state

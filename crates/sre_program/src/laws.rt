@@ -1,8 +1,0 @@
-//! Laws of requests.
-
-ghost use Rattle.sre_program.specs.Laws.{OneRequestForOneText};
-
-/// Different requests have different texts.
-pub fn one_request_for_one_text()
-    ensures { OneRequestForOneText }
-{}
