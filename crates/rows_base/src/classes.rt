@@ -1,4 +1,4 @@
-//! The edges of each class and category, and hashes, as CPython answers.
+//! The edges of each class of characters, as CPython answers.
 
 use py_base::*;
 
@@ -93,126 +93,46 @@ const CLASSES: [(u32, &str); 86] = [
     (0xFFFFFFFF, ""),
 ];
 
+// Whether the number is in each of the classes that `LETTERS_AND_NUMBERS` names.
+fn letters_and_numbers(c: u32) -> [bool; 7] {
+    [
+        is_alphabetic(c),
+        is_lower(c),
+        is_upper(c),
+        is_title(c),
+        is_decimal(c),
+        is_numeric(c),
+        is_alnum(c),
+    ]
+}
+
+const LETTERS_AND_NUMBERS: [char; 7] = ['a', 'l', 'u', 't', 'd', 'n', 'm'];
+
+// Whether the number is in each of the classes that `OTHERS` names.
+fn others(c: u32) -> [bool; 7] {
+    [
+        is_digit_char(c),
+        is_white(c),
+        is_space(c),
+        is_line_end(c),
+        is_printable(c),
+        is_id_start(c),
+        is_id_continue(c),
+    ]
+}
+
+const OTHERS: [char; 7] = ['g', 'w', 'b', 'e', 'p', 'i', 'c'];
+
+// Whether each of the names is among the letters.
+fn named(letters: &str, names: [char; 7]) -> [bool; 7] {
+    names.map(|name| letters.contains(name))
+}
+
 #[test]
 fn classes(rt: HostRuntime) {
     for (c, letters) in &CLASSES {
-        let c = *c;
-        assert_eq!(rt; is_alphabetic(c), letters.contains('a'), "alphabetic {c}");
-        assert_eq!(rt; is_lower(c), letters.contains('l'), "lower {c}");
-        assert_eq!(rt; is_upper(c), letters.contains('u'), "upper {c}");
-        assert_eq!(rt; is_title(c), letters.contains('t'), "title {c}");
-        assert_eq!(rt; is_decimal(c), letters.contains('d'), "decimal {c}");
-        assert_eq!(rt; is_numeric(c), letters.contains('n'), "numeric {c}");
-        assert_eq!(rt; is_alnum(c), letters.contains('m'), "alnum {c}");
-        assert_eq!(rt; is_digit_char(c), letters.contains('g'), "digit char {c}");
-        assert_eq!(rt; is_white(c), letters.contains('w'), "white {c}");
-        assert_eq!(rt; is_space(c), letters.contains('b'), "space {c}");
-        assert_eq!(rt; is_line_end(c), letters.contains('e'), "line end {c}");
-        assert_eq!(rt; is_printable(c), letters.contains('p'), "printable {c}");
-        assert_eq!(rt; is_id_start(c), letters.contains('i'), "id start {c}");
-        assert_eq!(rt; is_id_continue(c), letters.contains('c'), "id continue {c}");
-    }
-}
-
-// A category, a number, and whether it holds it. The next category is its contrary.
-const CATEGORIES: [(u32, u32, bool); 61] = [
-    (0, 0x2F, false),
-    (0, 0x30, true),
-    (0, 0x39, true),
-    (0, 0x3A, false),
-    (0, 0x660, false),
-    (0, 0xD800, false),
-    (2, 0x8, false),
-    (2, 0x9, true),
-    (2, 0xD, true),
-    (2, 0xE, false),
-    (2, 0x1F, false),
-    (2, 0x20, true),
-    (2, 0x21, false),
-    (2, 0xA0, false),
-    (2, 0xD800, false),
-    (4, 0x2F, false),
-    (4, 0x30, true),
-    (4, 0x39, true),
-    (4, 0x3A, false),
-    (4, 0x40, false),
-    (4, 0x41, true),
-    (4, 0x5A, true),
-    (4, 0x5B, false),
-    (4, 0x5E, false),
-    (4, 0x5F, true),
-    (4, 0x60, false),
-    (4, 0x61, true),
-    (4, 0x7A, true),
-    (4, 0x7B, false),
-    (4, 0xE9, false),
-    (4, 0xD800, false),
-    (6, 0x9, false),
-    (6, 0xA, true),
-    (6, 0xB, false),
-    (6, 0xD800, false),
-    (10, 0x2F, false),
-    (10, 0x30, true),
-    (10, 0x39, true),
-    (10, 0x3A, false),
-    (10, 0x660, true),
-    (10, 0xB2, false),
-    (10, 0xD800, false),
-    (12, 0x1B, false),
-    (12, 0x1C, true),
-    (12, 0x20, true),
-    (12, 0xA0, true),
-    (12, 0x3000, true),
-    (12, 0xD800, false),
-    (14, 0x5E, false),
-    (14, 0x5F, true),
-    (14, 0x60, false),
-    (14, 0xE9, true),
-    (14, 0xB2, true),
-    (14, 0xD800, false),
-    (16, 0x9, false),
-    (16, 0xA, true),
-    (16, 0xD, true),
-    (16, 0x1F, false),
-    (16, 0x85, true),
-    (16, 0x2029, true),
-    (16, 0xD800, false),
-];
-
-#[test]
-fn categories(rt: HostRuntime) {
-    for (k, c, wanted) in &CATEGORIES {
-        let k = *k;
-        assert!(rt; is_category(k));
-        assert_eq!(rt; category(k, *c), *wanted, "category {k} of {c}");
-        let k = k.saturating_add(1);
-        assert!(rt; is_category(k));
-        assert_eq!(rt; category(k, *c), !*wanted, "category {k} of {c}");
-    }
-    for k in [8, 9, 18, u32::MAX] {
-        assert!(rt; !is_category(k));
-    }
-}
-
-const HASHES: [(i128, i64); 13] = [
-    (0, 0),
-    (1, 1),
-    (-1, -2),
-    (-2, -2),
-    (-3, -3),
-    (2305843009213693950, 2305843009213693950),
-    (2305843009213693951, 0),
-    (2305843009213693952, 1),
-    (-2305843009213693950, -2305843009213693950),
-    (-2305843009213693951, 0),
-    (-2305843009213693952, -2),
-    (170141183460469231731687303715884105727, 31),
-    (-170141183460469231731687303715884105728, -32),
-];
-
-#[test]
-fn hashes(rt: HostRuntime) {
-    for (n, wanted) in &HASHES {
-        assert_eq!(rt; py_hash_int(*n), *wanted, "{n}");
+        let found = (letters_and_numbers(*c), others(*c));
+        let wanted = (named(letters, LETTERS_AND_NUMBERS), named(letters, OTHERS));
+        assert_eq!(rt; found, wanted, "at {c}");
     }
 }

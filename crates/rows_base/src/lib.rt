@@ -3,8 +3,16 @@
 #![tactic(auto)]
 
 #[cfg(test)]
+mod categories;
+#[cfg(test)]
 mod classes;
 #[cfg(test)]
 mod errors;
 #[cfg(test)]
+mod hashes;
+#[cfg(test)]
+mod keys;
+#[cfg(test)]
 mod streams;
+#[cfg(test)]
+mod whitespace;

@@ -1,0 +1,58 @@
+//! Searches that end at once where the attempts are tried one after another and kept in a vector.
+
+ghost use Rattle.std.specs.Prelude.{◌≡◌, ◌<◌};
+
+use py_base::Steps;
+use sre_code::{Checked, decode};
+use sre_match::{MatchError, PlaceView, Request, SearchIter};
+use std::alloc::Global;
+use std::marker::Brand;
+use std::sync::ledger::{Blank, Ledger};
+use std::test::Fail;
+
+// The first span of the subject.
+fn first<L: Ledger>(
+    alloc: Global,
+    code: &Checked,
+    subject: &[u32],
+    blank: Blank,
+) -> Result<(usize, usize), MatchError>
+    requires name { blank.name ≡ L.name }
+    requires parts { blank.parts ≡ L.parts }
+    requires some { 0 < L.parts }
+{
+    let mut steps = Steps::<L>::new(blank);
+    let request = Request::new(PlaceView::new(subject), 0, subject.len(), code, false);
+    let mut walk = SearchIter::new(alloc, request);
+    let _found = walk.next(&mut steps)?;
+    Ok((walk.state().start(), walk.state().position()))
+}
+
+// `(?:a|b)*`
+const A_OR_B: [u32; 18] = [
+    23, 15, 0, 4294967295, 7, 5, 16, 97, 15, 7, 5, 16, 98, 15, 2, 0, 18, 1,
+];
+
+// A million units, by turns `a` and `b`, are one span.
+#[test]
+fn million(rt: HostRuntime) -> Result<(), Fail> {
+    let code = decode(rt.alloc(), &A_OR_B, 0)?;
+    let subject = [97, 98].repeat(rt.alloc(), 500_000)?;
+    let span = first::<Brand>(rt.alloc(), &code, &subject, Blank::new(1))?;
+    assert_eq!(rt; span, (0, 1_000_000));
+    Ok(())
+}
+
+// `(?:a|a)*`
+const A_OR_A: [u32; 18] = [
+    23, 15, 0, 4294967295, 7, 5, 16, 97, 15, 7, 5, 16, 97, 15, 2, 0, 18, 1,
+];
+
+// The second alternatives of 64 units would be 2^64 attempts; the first one is the outcome.
+#[test]
+fn first_of_many(rt: HostRuntime) -> Result<(), Fail> {
+    let code = decode(rt.alloc(), &A_OR_A, 0)?;
+    let span = first::<Brand>(rt.alloc(), &code, &[97; 64], Blank::new(1))?;
+    assert_eq!(rt; span, (0, 64));
+    Ok(())
+}

@@ -1,0 +1,66 @@
+//! The spans of a subject, one after another.
+
+ghost use Rattle.std.specs.Prelude.{◌≡◌, ◌<◌};
+
+use py_base::Steps;
+use sre_code::{Checked, decode};
+use sre_match::{MatchError, PlaceView, Request, SearchIter};
+use std::alloc::Global;
+use std::marker::Brand;
+use std::sync::ledger::{Blank, Ledger};
+use std::test::Fail;
+
+type Spans = Vec<(usize, usize)>;
+
+// The spans of a subject, at most eight.
+fn spans<L: Ledger>(
+    alloc: Global,
+    code: &Checked,
+    subject: &[u32],
+    blank: Blank,
+) -> Result<Spans, MatchError>
+    requires name { blank.name ≡ L.name }
+    requires parts { blank.parts ≡ L.parts }
+    requires some { 0 < L.parts }
+{
+    let mut steps = Steps::<L>::new(blank);
+    let request = Request::new(PlaceView::new(subject), 0, subject.len(), code, false);
+    let mut walk = SearchIter::new(alloc, request);
+    let mut spans = Vec::new(alloc);
+    for _ in 0..8 {
+        if !walk.next(&mut steps)? {
+            break;
+        }
+        spans.push((walk.state().start(), walk.state().position()))?;
+    }
+    Ok(spans)
+}
+
+// A code, a subject, and the spans that repeated calls of `scanner.search` give in CPython.
+const ROWS: [(&[u32], &[u32], &[(usize, usize)]); 4] = [
+    // `a` in `ba`
+    (&[16, 97, 1], &[98, 97], &[(1, 2)]),
+    // `|a` in `ba` and in `aa`
+    (
+        &[7, 3, 15, 7, 5, 16, 97, 15, 2, 0, 1],
+        &[98, 97],
+        &[(0, 0), (1, 1), (1, 2), (2, 2)],
+    ),
+    (
+        &[7, 3, 15, 7, 5, 16, 97, 15, 2, 0, 1],
+        &[97, 97],
+        &[(0, 0), (0, 1), (1, 1), (1, 2), (2, 2)],
+    ),
+    // nothing in `ab`
+    (&[1], &[97, 98], &[(0, 0), (1, 1), (2, 2)]),
+];
+
+#[test]
+fn walks(rt: HostRuntime) -> Result<(), Fail> {
+    for (words, subject, wanted) in &ROWS {
+        let code = decode(rt.alloc(), words, 0)?;
+        let found = spans::<Brand>(rt.alloc(), &code, subject, Blank::new(1))?;
+        assert_eq!(rt; found.as_slice(), *wanted, "{words:?} in {subject:?}");
+    }
+    Ok(())
+}
