@@ -92,8 +92,8 @@ def sentences(text):
     """The sentences of a page's prose: no code blocks, tables, headings or lists of rows."""
     text = re.sub(r"```.*?```", "", text, flags=re.DOTALL)
     lines = ["" if re.match(r"\||#|    ", line) else line for line in text.split("\n")]
-    prose = LINK.sub("word", NAME.sub("word", "\n".join(lines)))
-    for part in re.split(r"(?<=[.:!?])\s+(?=[A-Z*\[(-])|\n\s*\n|\n(?=- |\d+\. )", prose):
+    prose = LINK.sub("Word", NAME.sub("Word", "\n".join(lines))).replace("**", "")
+    for part in re.split(r"(?<=[.!?])\s+(?=[A-Z\[(-])|\n\s*\n|\n(?=- |\d+\. )", prose):
         words = re.findall(r"[\w'-]+", part)
         if len(words) > 2:
             yield words
@@ -183,15 +183,14 @@ def all_calls(crate):
     return [call for file in sorted((CRATES / crate / "src").rglob("*.rt")) for call in calls_of(file)]
 
 
-def exports(crate):
-    """The names that a library hands out: those of `pub use`, and of the functions of `laws`."""
-    root = (CRATES / crate / "src" / "lib.rt").read_text(encoding="utf-8")
-    names = set()
-    for use in re.findall(r"pub use ([^;]*);", root):
-        names.update(re.findall(r"\w+", use.split("::")[-1]))
-    laws = CRATES / crate / "src" / "laws.rt"
-    if laws.exists():
-        names.update(call.name for call in calls_of(laws))
+def exports(file):
+    """The names that a module hands out: those of `pub use`, and the functions of its public modules."""
+    text = file.read_text(encoding="utf-8")
+    names = {name for use in re.findall(r"pub use ([^;]*);", text) for name in re.findall(r"\w+", use.split("::")[-1])}
+    folder = file.parent if file.stem in ("lib", "main") else file.with_suffix("")
+    for module in re.findall(r"^pub mod (\w+);", text, re.MULTILINE):
+        inner = folder / f"{module}.rt"
+        names |= exports(inner) | {call.name for call in calls_of(inner) if not call.owner}
     return names
 
 
@@ -229,9 +228,8 @@ def call_faults(crate, full, clauses, calls):
 
 
 def missing_calls(crate, calls, named):
-    if not (CRATES / crate / "src" / "lib.rt").exists():
-        return
-    names = exports(crate)
+    root = CRATES / crate / "src" / "lib.rt"
+    names = exports(root) if root.exists() else set()
     for call in calls:
         if is_exported(call, names) and call.clauses and call.full_name() not in named:
             yield f"docs/PROVED.md: {crate}: {call.full_name()} is missing"
