@@ -261,7 +261,7 @@ def definition_faults():
             for name in NAME.findall(cells[0]):
                 if not re.search(rf"\b{re.escape(name)}\b", words):
                     yield f"docs/DEFINITIONS.md: {title}: its files define no {name}"
-        for name in re.findall(r"computed as `(\w+)`", part):
+        for name in re.findall(r"`(\w+)`", " ".join(re.findall(r"computed as ((?:(?:, | and )?`\w+`)+)", part))):
             if not any(re.search(rf"\b{name} :", row.read_text(encoding="utf-8"))
                        for row in CRATES.glob("*/specs/**/*Rows.antt")):
                 yield f"docs/DEFINITIONS.md: {title}: there is no row {name}"
