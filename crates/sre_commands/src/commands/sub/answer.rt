@@ -31,6 +31,7 @@ fn has_next<'c, S: StrDrive, L: Ledger>(
     count: usize,
     steps: &mut Steps<L>,
 ) -> Result<bool, MatchError>
+    requires { S.counts L.name }
     ensures found { IfOk result (λ found. if_found found walk.new.span ≡ up_to limit count (next_span walk.old.search.tree walk.old.search.subject walk.old.standing.place walk.old.standing.advance false)) }
     ensures moved { OnOk result (walk.new.standing ≡ stands_behind (up_to limit count (next_span walk.old.search.tree walk.old.search.subject walk.old.standing.place walk.old.standing.advance false)) walk.old.standing) }
     ensures search { walk.new.search ≡ walk.old.search }
