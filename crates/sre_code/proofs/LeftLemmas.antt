@@ -21,8 +21,8 @@ use Rattle.sre_code.specs.TreeView.{node_of, tree_of}
 use Rattle.sre_code.proofs.SoundSetLemmas.{an_item}
 use Rattle.sre_code.proofs.SoundBranchLemmas.{an_alternative}
 use Rattle.sre_code.proofs.SoundLemmas.{a_node, a_body}
-use Rattle.sre_code.proofs.AgainSetLemmas.{some_item}
-use Rattle.sre_code.proofs.AgainLemmas.{some_word}
+use Rattle.sre_code.proofs.CompleteSetLemmas.{some_item}
+use Rattle.sre_code.proofs.CompleteLemmas.{some_word}
 
 -- items
 abbrev pub ItemsLeft : List ℕ → List SetItem → List ℕ → Type 0

@@ -1,7 +1,7 @@
-mod AgainBodyLemmas
-mod AgainBranchLemmas
-mod AgainLemmas
-mod AgainSetLemmas
+mod CompleteBodyLemmas
+mod CompleteBranchLemmas
+mod CompleteLemmas
+mod CompleteSetLemmas
 mod LeftLemmas
 mod ListLemmas
 mod SoundBodyLemmas

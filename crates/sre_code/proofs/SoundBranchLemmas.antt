@@ -34,7 +34,7 @@ an_alternative groups levels body ws h =
     let all : r1 ≡ spell t ++ JUMP ∷ jump ∷ x = p.are ∙ append_assoc (spell t) (JUMP ∷ []) r2 ∙ ap (λ v. spell t ++ JUMP ∷ v) f in
     record { jump = jump; are = e ∙ (λ i. long i ∷ all i); leads = omega (arith, leb-true jump (length x + 1) c); fits = p.fits; nesting = p.nesting }
 
--- the alternatives behind one, up to the last word of a branch
+-- the alternatives after one, up to the last word of a branch
 abbrev pub rest_words : List PlainTree → List ℕ
 rest_words [] = FAILURE ∷ []
 rest_words (t ∷ ts) = alternatives_words (trees_of (t ∷ ts))
@@ -76,7 +76,7 @@ a_branch groups levels body ws h =
     let fit = fit_back t.0 ts groups levels (p.fits, p.nesting, q.2) in
     ok (record { are = ap (λ v. BRANCH ∷ v) (with_first groups levels ws t.0 ts t.1 x y p q.0 q.1); fits = fit.0; nesting = fit.1 })
 
--- the second part of a conditional, behind the words that are left of the first
+-- the second body of a conditional, after the words that are left of the first
 abbrev pub jump_words : Option PlainTree → List ℕ
 jump_words None = []
 jump_words (Some z) = JUMP ∷ (length (spell z) + 1) ∷ []

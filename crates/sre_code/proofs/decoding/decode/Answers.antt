@@ -6,7 +6,7 @@ use Rattle.sre_code.specs.Spelling.{Spells}
 use Rattle.sre_code.specs.Decoding.Decoder.{Meets}
 use Rattle.sre_code.specs.Decoding.{read_code}
 use Rattle.sre_code.proofs.SoundLemmas.{what_is_read_is_spelled}
-use Rattle.sre_code.proofs.AgainLemmas.{what_is_spelled_is_read}
+use Rattle.sre_code.proofs.CompleteLemmas.{what_is_spelled_is_read}
 use Rattle.sre_code.proofs.decoding.decode.Goals as goal
 
 pub returns-in_err-tree-clause-invalid : goal.returns-in_err-tree-clause-invalid

@@ -1,4 +1,4 @@
-use Rattle.sre_code.proofs.AgainLemmas.{what_is_spelled_is_read}
+use Rattle.sre_code.proofs.CompleteLemmas.{what_is_spelled_is_read}
 use Rattle.sre_code.proofs.laws.one_tree_for_one_code.Goals as goal
 
 pub returns : goal.returns

@@ -1,5 +1,5 @@
 use Rattle.sre_code.proofs.SoundLemmas.{what_is_read_is_spelled}
-use Rattle.sre_code.proofs.AgainLemmas.{what_is_spelled_is_read}
+use Rattle.sre_code.proofs.CompleteLemmas.{what_is_spelled_is_read}
 use Rattle.sre_code.proofs.laws.reading_is_spelling.Goals as goal
 
 pub returns : goal.returns

@@ -1,4 +1,4 @@
--- A node, a tree or a code that is spelled is read again.
+-- A node, a tree or a code that is spelled is read.
 use Rattle.std.proofs.Common.{◌≡◌, refl, sym, ap, ◌∙◌, ℕ, zero, suc, ◌+◌, ◌-◌, ◌≤◌, ◌<◌, true, false, List, [], ◌∷◌, ◌++◌, length, append_assoc, arith, length-append}
 use Rattle.std.specs.Prelude.{Option, Some, None, Ok, if◌then◌else◌}
 use Rattle.std.proofs.lemmas.Bool.{ne_eqb, le-ltb, lt-ltb}
@@ -13,9 +13,9 @@ use Rattle.sre_code.specs.Decoding.Words.{is_end}
 use Rattle.sre_code.specs.Decoding.Branches.{read_branch}
 use Rattle.sre_code.specs.Decoding.Nodes.{read_node, read_nodes, read_body, read_tree}
 use Rattle.sre_code.specs.Decoding.{read_info, ended, read_code}
-use Rattle.sre_code.proofs.AgainSetLemmas.{set_again}
-use Rattle.sre_code.proofs.AgainBodyLemmas.{Knows, atomic_again, look_again, even_first, mark_again, repeat_again, possessive_again, repeat_one_again}
-use Rattle.sre_code.proofs.AgainBranchLemmas.{AllKnown, branch_again, first_of, more_of, trees_back, without_else, with_else}
+use Rattle.sre_code.proofs.CompleteSetLemmas.{set_again}
+use Rattle.sre_code.proofs.CompleteBodyLemmas.{Knows, atomic_again, look_again, even_first, mark_again, repeat_again, possessive_again, repeat_one_again}
+use Rattle.sre_code.proofs.CompleteBranchLemmas.{AllKnown, branch_again, first_of, more_of, trees_back, without_else, with_else}
 
 -- the first word of a node ends no tree, and begins no block
 first_is : (n : PlainNode) (x : List ℕ) → (is_end (node_words n ++ x) ≡ false) × (is_next INFO (node_words n ++ x) ≡ false)

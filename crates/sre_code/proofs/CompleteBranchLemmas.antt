@@ -1,4 +1,4 @@
--- A branch or a conditional that is spelled is read again.
+-- A branch or a conditional that is spelled is read.
 use Rattle.std.proofs.Common.{◌≡◌, refl, sym, ap, ◌∙◌, ℕ, zero, suc, ◌+◌, ◌-◌, ◌≤◌, true, List, [], ◌∷◌, ◌++◌, length, append_assoc, arith, length-append}
 use Rattle.std.specs.Prelude.{Option, Some, None, ◌==◌, ◌&&◌, nat_lt, nat_le, Ok}
 use Rattle.std.proofs.lemmas.Bool.{eq-eqb, ne_eqb, le-leb, lt-leb, le-ltb, and_from, or_from}
@@ -15,7 +15,7 @@ use Rattle.sre_code.specs.Decoding.Bodies.{read_part}
 use Rattle.sre_code.specs.Decoding.Branches.{read_alternative, read_alternatives, read_branch}
 use Rattle.sre_code.specs.Decoding.Conditionals.{read_second, exists_of, read_choice, read_exists}
 use Rattle.sre_code.proofs.ListLemmas.{split_jump}
-use Rattle.sre_code.proofs.AgainBodyLemmas.{Knows, part_again}
+use Rattle.sre_code.proofs.CompleteBodyLemmas.{Knows, part_again}
 use Rattle.sre_code.proofs.SoundBranchLemmas.{rest_words, first_words, jump_words, second_words}
 
 -- branches

@@ -1,4 +1,4 @@
--- A node with one body, or a repeat, that is spelled is read again.
+-- A node with one body, or a repeat, that is spelled is read.
 use Rattle.std.proofs.Common.{◌≡◌, refl, ap, ℕ, ◌+◌, ◌-◌, ◌*◌, ◌/◌, ◌%◌, ◌≤◌, Bool, true, false, List, [], ◌∷◌, ◌++◌, length, append_assoc, arith, length-append}
 use Rattle.std.specs.Prelude.{◌==◌, nat_le, Ok, if◌then◌else◌, IsTrue}
 use Rattle.std.proofs.lemmas.Bool.{eq-eqb, ne_eqb, le-leb, lt-leb, and_from, or_from}
