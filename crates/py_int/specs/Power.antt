@@ -21,7 +21,8 @@ IsInverse m z i = AreCongruent m (z *ℤ i) (pos 1)
 abbrev pub IsInversePower : ℤ → ℤ → ℕ → ℤ → Type 0
 IsInversePower m z k r = (i : ℤ) × IsInverse m z i × (r ≡ floor_mod (power i k) m)
 
--- r is a to the power e by m: the one number that is congruent to it, is 0 or has m's sign, and is less than m without signs
+-- r is a to the power e by m: the one integer that is congruent to it, is 0 or has m's sign, and
+-- is less than m without signs
 pub record IsModularPower (a e m : ℤ) (r : Result ℤ PyError) : Type 0 where
   pub by_zero : m ≡ pos 0 → r ≡ Err ModulusZero
   pub value : m ≢ pos 0 → pos 0 ≤ℤ e → r ≡ Ok (floor_mod (power a (unsigned_abs e)) m)

@@ -59,8 +59,8 @@ fn inverse_power_under(base: PyInt, exp: PyInt, modulus: PyInt) -> PyResult<PyIn
 }
 
 impl PyInt {
-    /// `pow(self, exp, modulus)`, as `modpow`; without a modulus `self ** exp`, or `NotCarried` where
-    /// `exp` is negative.
+    /// `pow(self, exp, modulus)`, as `modpow`; without a modulus `self ** exp`, or `NotCarried`
+    /// where `exp` is negative.
     pub fn pow(&self, exp: PyInt, modulus: Option<PyInt>) -> PyResult<PyInt>
         ensures negative { IfNone modulus (exp <ℤ pos 0 → result ≡ Err (NotCarried NegativePower)) }
         ensures value { IfNone modulus (pos 0 ≤ℤ exp → Carries (power self.now (unsigned_abs exp)) result) }
@@ -90,8 +90,8 @@ impl PyInt {
         }
     }
 
-    /// `pow(self, exp, modulus)`: `ModulusZero` where the modulus is 0; the power of the inverse where
-    /// `exp` is negative, or `NotInvertible`. Its products are never too wide.
+    /// `pow(self, exp, modulus)`: `ModulusZero` where the modulus is 0; the power of the inverse
+    /// where `exp` is negative, or `NotInvertible`. Its products are never too wide.
     pub fn modpow(&self, exp: PyInt, modulus: PyInt) -> PyResult<PyInt>
         ensures { IsModularPower self.now exp modulus result }
     {

@@ -9,7 +9,7 @@ ghost use Rattle.py_int.specs.Shift.{shifted_left, shifted_right};
 use crate::number::PyInt;
 use py_base::{PyError, PyResult};
 
-// 2^127 has one digit more than the greatest number.
+// 2^127 has one digit more than the greatest integer.
 const DIGITS: i128 = 127;
 
 fn power_of_two(exponent: u32) -> PyInt
@@ -58,7 +58,8 @@ impl PyInt {
         base.lshift(*self)
     }
 
-    /// `self >> bits`, or `NegativeShift`. Any count is good: it leaves 0, or -1 of a negative number.
+    /// `self >> bits`, or `NegativeShift`. Any count is good: a large one leaves 0, or -1 of a
+    /// negative integer.
     pub fn rshift(&self, bits: PyInt) -> PyResult<PyInt>
         ensures negative { bits <ℤ pos 0 → result ≡ Err NegativeShift }
         ensures value { pos 0 ≤ℤ bits → result ≡ Ok (shifted_right self.now (unsigned_abs bits)) }
