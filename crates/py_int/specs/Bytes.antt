@@ -65,3 +65,7 @@ is_high true (b ∷ bs) = nat_le 128 b
 abbrev pub digits_if : Bool → List ℕ → List ℕ
 digits_if false bytes = bytes
 digits_if true bytes = map (λ b. 255 - b) bytes
+
+-- the natural number that they spell
+abbrev pub size : Bool → List ℕ → ℕ
+size turned bytes = number_from_digits 256 (digits_if turned bytes)

@@ -1,7 +1,6 @@
 -- Laws of integers.
-use Rattle.std.specs.Prelude.{◌≡◌, ◌≢◌, ◌<◌, ◌↔◌, ◌^◌, ℕ, ℤ, pos, unsigned_abs, Bool, true, false, Ok}
+use Rattle.std.specs.Prelude.{◌≡◌, ◌≢◌, ◌↔◌, ◌^◌, ℕ, ℤ, pos, Bool, true, false, Ok}
 use Rattle.std.specs.Fmt.{signed_decimal}
-use Rattle.std.specs.Int.{◌∣◌}
 use Rattle.py_base.specs.Hash.{int_hash}
 use Rattle.py_int.specs.declared.bytes.ArgByteOrder.{ArgByteOrder}
 use Rattle.py_int.specs.Bits.{bit}
@@ -9,7 +8,7 @@ use Rattle.py_int.specs.Bytes.{in_order, number_of, bytes_in, holds}
 use Rattle.py_int.specs.Divide.{IsDivision, floor_div, floor_mod}
 use Rattle.py_int.specs.Literal.{int_of}
 use Rattle.py_int.specs.Number.{wide}
-use Rattle.py_int.specs.Power.{IsInverse}
+use Rattle.py_int.specs.Power.{HaveCommonDivisor, IsInverse}
 use Rattle.py_int.specs.Round.{IsNearestMultiple, rounded}
 
 -- the floor of a quotient and what it leaves are the one pair that divides
@@ -20,7 +19,7 @@ DivisionIsOnePair = (a b q r : ℤ) → b ≢ pos 0 →
 -- there is no inverse exactly where modulus and base have a common divisor past 1
 abbrev pub NoInverseIsCommonDivisor : Type 0
 NoInverseIsCommonDivisor = (m a : ℤ) → m ≢ pos 0 →
-    ((i : ℤ) → ¬ IsInverse m a i) ↔ ((d : ℕ) × (1 < d) × (d ∣ unsigned_abs m) × (d ∣ unsigned_abs a))
+    ((i : ℤ) → ¬ IsInverse m a i) ↔ HaveCommonDivisor m a
 
 -- a rounded integer is the nearest multiple of the power of ten, and the even one of two as near
 abbrev pub RoundingIsNearest : Type 0

@@ -1,4 +1,4 @@
--- Literals of integers: a sign and a prefix are read from the front; the digits are all that is left.
+-- Literals of integers: a sign and a prefix are read from the front, and the rest is digits.
 use Rattle.std.specs.Prelude.{ℕ, ◌+◌, ◌-◌, ◌*◌, ◌^◌, ◌==◌, min, nat_lt, nat_le, ℤ, pos, neg_ℤ, Bool, true, false, ◌&&◌, ◌||◌, List, [], ◌∷◌, drop, Option, None, Some, option_map, Result, Err, if◌then◌else◌}
 use Rattle.std.specs.Char.{digit_value}
 use Rattle.py_base.specs.Chars.Whitespace.{is_ascii_whitespace, trim}

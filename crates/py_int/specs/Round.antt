@@ -25,7 +25,7 @@ IsCut z places r = places <ℤ pos 0 → Carries (rounded z (unsigned_abs places
 abbrev pub distance : ℤ → ℤ → ℕ
 distance a b = unsigned_abs (a -ℤ b)
 
--- r is a multiple of u; no multiple of u is nearer to z; where another is as near, r's quotient is even
+-- r is a multiple of u; none is nearer to z; where another is as near, r's quotient is even
 pub record IsNearestMultiple (u : ℕ) (z r : ℤ) : Type 0 where
   pub quotient : ℤ
   pub multiple : r ≡ pos u *ℤ quotient

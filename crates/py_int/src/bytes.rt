@@ -7,7 +7,7 @@ ghost use Rattle.std.specs.Int.Digits.{number_from_digits};
 ghost use Rattle.py_base.specs.declared.error.PyError.TheVariants.{NoMemory, NegativeToUnsigned, IntTooBig};
 ghost use Rattle.py_int.specs.Number.{Carries, IsNarrow};
 ghost use Rattle.py_int.specs.Divide.{floor_of};
-ghost use Rattle.py_int.specs.Bytes.{in_order, number_of, bytes_in, holds, lacks_sign, is_within, low_byte, low_bytes, is_high, digits_if, IsTooBig};
+ghost use Rattle.py_int.specs.Bytes.{in_order, number_of, bytes_in, holds, lacks_sign, is_within, low_byte, low_bytes, is_high, digits_if, size, IsTooBig};
 
 use crate::number::PyInt;
 use crate::shift::down;
@@ -51,9 +51,9 @@ fn spells_negative(bytes: &[u8], byteorder: ArgByteOrder, signed: bool) -> bool
     signed && !bytes.is_empty() && byte_at(bytes, byteorder, 0) >= 128
 }
 
-// The integer that the bytes spell without a sign, each digit or its complement; none from 2^127 on.
+// The integer of the digits, or of their complements, without a sign; none from 2^127 on.
 fn size_of(bytes: &[u8], byteorder: ArgByteOrder, turned: bool) -> Option<u128>
-    ensures { IsNarrow (number_from_digits 256 (digits_if turned (in_order byteorder bytes.now))) result }
+    ensures { IsNarrow (size turned (in_order byteorder bytes.now)) result }
 {
     let mut size: u128 = 0;
     for place in 0..bytes.len() {
