@@ -1,11 +1,11 @@
 -- Floors of quotients and what they leave.
-use Rattle.std.proofs.Common.{◌≡◌, ◌≢◌, ℕ, zero, suc, ◌+◌, ◌-◌, ◌*◌, ◌/◌, ◌%◌, ◌<◌, ℤ, pos, negsuc, ◌-ℤ◌, ◌*ℤ◌, unsigned_abs, ◌≤ℤ◌, ◌<ℤ◌, inl, inr, eqb, false, refl, ap, sym, ◌∙◌, arith}
+use Rattle.std.proofs.Common.{◌≡◌, ◌≢◌, ℕ, zero, suc, ◌+◌, ◌-◌, ◌*◌, ◌/◌, ◌%◌, ◌<◌, ℤ, pos, negsuc, ◌-ℤ◌, ◌*ℤ◌, unsigned_abs, ◌≤ℤ◌, ◌<ℤ◌, inl, inr, eqb, true, false, neg_ℤ, refl, ap, sym, ◌∙◌, arith}
 use Rattle.std.proofs.Math.Nat.{div-add-mod}
 use Rattle.std.proofs.lemmas.Int.{ints}
 use Rattle.std.proofs.lemmas.Nat.{mod_below, div-mul-add, mod-mul-add}
 use Rattle.std.proofs.lemmas.Bool.{cases_lt}
 use Rattle.std.proofs.lemmas.Bool.Decides.{nat_tests}
-use Rattle.py_int.specs.Divide.{floor_of, floor_mod}
+use Rattle.py_int.specs.Divide.{floor_of, floor_div, floor_mod, rounded_up, signs_differ}
 use Rattle.py_int.specs.Residue.{residue, toward}
 
 pub residue_below : (z : ℤ) (m : ℕ) → 0 < m → residue z m < m
@@ -105,3 +105,26 @@ nonzero-abs (negsuc b) h = omega arith
 pub floor_mod-is : (z b : ℤ) → b ≢ pos 0 → floor_mod z b ≡ toward (residue z (unsigned_abs b)) b
 floor_mod-is z (pos b) h = floor_mod-pos z b (nonzero-pos b h)
 floor_mod-is z (negsuc b) h = toward-neg z b
+
+-- ---- the floor, from sizes
+
+negative_floor : (a m : ℕ) → 0 < m → negsuc (a / m) ≡ neg_ℤ (pos (rounded_up (suc a / m) (suc a % m)))
+negative_floor a m p =
+    elim (step_of a m p) [
+      | turns i j k ↦ rw (i, j) refl
+      | goes_on i j k ↦ (
+          let f : eqb (suc a % m) 0 ≡ false = grind (arith, nat_tests) in
+          rw (f, j) (let e : a / m + 1 ≡ suc (a / m) = omega arith in rw e refl)
+          )
+    ]
+
+-- of integers with different signs
+pub floor_up : (a b : ℤ) → b ≢ pos 0 → true ≡ signs_differ a b → neg_ℤ (pos (rounded_up (unsigned_abs a / unsigned_abs b) (unsigned_abs a % unsigned_abs b))) ≡ floor_div a b
+floor_up (pos a) (pos b) n h = absurd (cc)
+floor_up (negsuc a) (negsuc b) n h = absurd (cc)
+floor_up (pos zero) (negsuc b) n h =
+    let e : 0 / suc b ≡ 0 = omega (arith, div-add-mod 0 (suc b)) in
+    let f : 0 % suc b ≡ 0 = omega (arith, div-add-mod 0 (suc b)) in
+    rw (e, f) refl
+floor_up (pos (suc a)) (negsuc b) n h = sym (negative_floor a (suc b) (omega arith))
+floor_up (negsuc a) (pos b) n h = sym (negative_floor a b (nonzero-pos b n))

@@ -1,8 +1,8 @@
 -- What is printed of an integer is read back.
-use Rattle.std.proofs.Common.{◌≡◌, ℕ, zero, suc, ◌+◌, ◌*◌, ◌/◌, ◌%◌, ◌^◌, ◌<◌, ◌≤◌, ◌++◌, Bool, true, false, ◌&&◌, nat_lt, nat_le, eqb, List, [], ◌∷◌, length, reverse, drop, Option, None, Some, option_map, ℤ, pos, negsuc, neg_ℤ, Ok, inl, inr, refl, ap, sym, ◌∙◌, arith}
+use Rattle.std.proofs.Common.{◌≡◌, ℕ, suc, ◌+◌, ◌*◌, ◌/◌, ◌%◌, ◌^◌, ◌<◌, ◌≤◌, ◌++◌, Bool, true, false, ◌&&◌, nat_lt, eqb, List, [], ◌∷◌, length, reverse, None, Some, ℤ, pos, negsuc, neg_ℤ, Ok, inl, inr, refl, ap, sym, ◌∙◌, arith}
 use Rattle.std.specs.Char.{digit_value}
 use Rattle.std.specs.Fmt.{decimal, signed_decimal}
-use Rattle.std.proofs.lemmas.Bool.{cases_lt, cases_Bool}
+use Rattle.std.proofs.lemmas.Bool.{cases_Bool}
 use Rattle.std.proofs.lemmas.Bool.Decides.{nat_tests}
 use Rattle.std.proofs.lemmas.Fmt.{decimal_by_steps_wide}
 use Rattle.std.proofs.lemmas.List.{reverse-append, reverse-reverse}
@@ -10,7 +10,7 @@ use Rattle.std.proofs.lemmas.Str.{digit_value_digit}
 use Rattle.py_base.specs.Chars.Whitespace.{is_ascii_whitespace, skip_while, trim, trim_start, trim_end}
 use Rattle.py_base.specs.Reading.{find}
 use Rattle.py_int.specs.Number.{wide, carried}
-use Rattle.py_int.specs.Literal.{allowed, begins_with_zero, digits, digits_after, digits_by, int_of, literal, literal_result, no_leading_zero, plain_digits, prefix_at, prefix_bases, read_sign, signed, unsigned}
+use Rattle.py_int.specs.Literal.{begins_with_zero, digits, digits_after, int_of, literal, literal_result, no_leading_zero, prefix_at, prefix_bases, read_sign, unsigned}
 
 abbrev AllDigits : List ℕ → Type 0
 AllDigits [] = Unit {0}
@@ -165,15 +165,13 @@ carries z h = rw h refl
 pub reads_back : (z : ℤ) → wide z ≡ false → (int_of 10 (signed_decimal z) ≡ Ok z) × (int_of 0 (signed_decimal z) ≡ Ok z)
 reads_back (pos n) h =
     let s : n < 2 ^ 127 = grind (arith, nat_tests) in
-    let w : Written n (decimal n) = written n (omega arith) in
-    (
+    let w : Written n (decimal n) = written n (omega arith) in (
       ap (literal_result 10) (reads_pos 10 n (decimal n) w (reads_ten n (decimal n) w)) ∙ carries (pos n) h,
       ap (literal_result 0) (reads_pos 0 n (decimal n) w (reads_zero n (decimal n) w)) ∙ carries (pos n) h,
     )
 reads_back (negsuc n) h =
     let s : n < 2 ^ 127 = grind (arith, nat_tests) in
-    let w : Written (suc n) (decimal (suc n)) = written (suc n) (omega arith) in
-    (
+    let w : Written (suc n) (decimal (suc n)) = written (suc n) (omega arith) in (
       ap (literal_result 10) (reads_neg 10 (suc n) (decimal (suc n)) w (reads_ten (suc n) (decimal (suc n)) w)) ∙ carries (negsuc n) h,
       ap (literal_result 0) (reads_neg 0 (suc n) (decimal (suc n)) w (reads_zero (suc n) (decimal (suc n)) w)) ∙ carries (negsuc n) h,
     )

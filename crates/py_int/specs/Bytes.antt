@@ -1,5 +1,5 @@
--- Numbers as bytes: digits of base 256, in two's complement where signed.
-use Rattle.std.specs.Prelude.{ℕ, zero, suc, ◌*◌, ◌-◌, ◌%◌, ◌^◌, ℤ, pos, negsuc, ◌-ℤ◌, Bool, true, false, nat_lt, nat_le, List, [], ◌∷◌, length, reverse, map, if◌then◌else◌}
+-- Integers as bytes: digits of base 256, in two's complement where signed.
+use Rattle.std.specs.Prelude.{◌≡◌, ℕ, zero, suc, ◌*◌, ◌-◌, ◌%◌, ◌^◌, ℤ, pos, negsuc, ◌-ℤ◌, Bool, true, false, nat_lt, nat_le, List, [], ◌∷◌, length, reverse, map, if◌then◌else◌}
 use Rattle.std.specs.Int.Digits.{number_from_digits}
 use Rattle.py_int.specs.declared.bytes.ArgByteOrder.{ArgByteOrder}
 use Rattle.py_int.specs.declared.bytes.ArgByteOrder.TheVariants.{Big, Little}
@@ -14,7 +14,7 @@ in_order Little bytes = reverse bytes
 abbrev pub complemented : ℕ → ℕ → ℤ
 complemented m n = if nat_lt (2 * n) m then pos n else pos n -ℤ pos m
 
--- the number that bytes spell, the highest first
+-- the integer that bytes spell, the highest first
 abbrev pub number_of : Bool → List ℕ → ℤ
 number_of false bytes = pos (number_from_digits 256 bytes)
 number_of true bytes = complemented (256 ^ length bytes) (number_from_digits 256 bytes)
@@ -51,6 +51,10 @@ lacks_sign false (negsuc n) = true
 lacks_sign false (pos n) = false
 lacks_sign true z = false
 
+-- neither lacks a sign nor is held by k bytes
+abbrev pub IsTooBig : Bool → ℕ → ℤ → Type 0
+IsTooBig signed k z = (lacks_sign signed z ≡ false) × (holds signed k z ≡ false)
+
 -- signed bytes whose highest bit is 1
 abbrev pub is_high : Bool → List ℕ → Bool
 is_high false bytes = false
@@ -61,3 +65,7 @@ is_high true (b ∷ bs) = nat_le 128 b
 abbrev pub digits_if : Bool → List ℕ → List ℕ
 digits_if false bytes = bytes
 digits_if true bytes = map (λ b. 255 - b) bytes
+
+-- the natural number that they spell
+abbrev pub size : Bool → List ℕ → ℕ
+size turned bytes = number_from_digits 256 (digits_if turned bytes)

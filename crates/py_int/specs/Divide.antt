@@ -1,5 +1,5 @@
 -- Quotients that are rounded down, and their remainders.
-use Rattle.std.specs.Prelude.{◌≡◌, ◌/◌, ◌<◌, ℕ, suc, ℤ, pos, negsuc, ◌+ℤ◌, ◌-ℤ◌, ◌*ℤ◌, neg_ℤ, Result, Ok, Err, if◌then◌else◌}
+use Rattle.std.specs.Prelude.{◌≡◌, ◌+◌, ◌/◌, ◌<◌, ◌==◌, Bool, true, false, ℕ, suc, ℤ, pos, negsuc, ◌+ℤ◌, ◌-ℤ◌, ◌*ℤ◌, neg_ℤ, Result, Ok, Err, if◌then◌else◌}
 use Rattle.std.specs.Prelude.{unsigned_abs}
 use Rattle.py_base.specs.declared.error.PyError.{PyError}
 use Rattle.py_base.specs.declared.error.PyError.TheVariants.{IntTooWide}
@@ -32,6 +32,16 @@ floor_div a (negsuc b) = floor_of (neg_ℤ a) (suc b)
 abbrev pub floor_mod : ℤ → ℤ → ℤ
 floor_mod a b = a -ℤ b *ℤ floor_div a b
 
--- both, or the refusal where the quotient is too wide
+-- just one of the two is negative
+abbrev pub signs_differ : ℤ → ℤ → Bool
+signs_differ (pos a) (pos b) = false
+signs_differ (pos a) (negsuc b) = true
+signs_differ (negsuc a) (pos b) = true
+signs_differ (negsuc a) (negsuc b) = false
+
+abbrev pub rounded_up : ℕ → ℕ → ℕ
+rounded_up quotient rest = if rest == 0 then quotient else quotient + 1
+
+-- both, or the error where the quotient is too wide
 abbrev pub divided : ℤ → ℤ → Result (ℤ × ℤ) PyError
 divided a b = if wide (floor_div a b) then Err IntTooWide else Ok (floor_div a b, floor_mod a b)

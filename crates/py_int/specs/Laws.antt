@@ -1,7 +1,6 @@
 -- Laws of integers.
-use Rattle.std.specs.Prelude.{◌≡◌, ◌≢◌, ◌<◌, ◌↔◌, ◌^◌, ℕ, ℤ, pos, unsigned_abs, Bool, true, false, Ok}
+use Rattle.std.specs.Prelude.{◌≡◌, ◌≢◌, ◌↔◌, ◌^◌, ℕ, ℤ, pos, Bool, true, false, Ok}
 use Rattle.std.specs.Fmt.{signed_decimal}
-use Rattle.std.specs.Int.{◌∣◌}
 use Rattle.py_base.specs.Hash.{int_hash}
 use Rattle.py_int.specs.declared.bytes.ArgByteOrder.{ArgByteOrder}
 use Rattle.py_int.specs.Bits.{bit}
@@ -9,16 +8,18 @@ use Rattle.py_int.specs.Bytes.{in_order, number_of, bytes_in, holds}
 use Rattle.py_int.specs.Divide.{IsDivision, floor_div, floor_mod}
 use Rattle.py_int.specs.Literal.{int_of}
 use Rattle.py_int.specs.Number.{wide}
-use Rattle.py_int.specs.Power.{IsInverse}
+use Rattle.py_int.specs.Power.{HaveCommonDivisor, IsInverse}
 use Rattle.py_int.specs.Round.{IsNearestMultiple, rounded}
 
 -- the floor of a quotient and what it leaves are the one pair that divides
 abbrev pub DivisionIsOnePair : Type 0
-DivisionIsOnePair = (a b q r : ℤ) → b ≢ pos 0 → IsDivision a b q r ↔ ((q ≡ floor_div a b) × (r ≡ floor_mod a b))
+DivisionIsOnePair = (a b q r : ℤ) → b ≢ pos 0 →
+    IsDivision a b q r ↔ ((q ≡ floor_div a b) × (r ≡ floor_mod a b))
 
 -- there is no inverse exactly where modulus and base have a common divisor past 1
 abbrev pub NoInverseIsCommonDivisor : Type 0
-NoInverseIsCommonDivisor = (m a : ℤ) → m ≢ pos 0 → ((i : ℤ) → ¬ IsInverse m a i) ↔ ((d : ℕ) × (1 < d) × (d ∣ unsigned_abs m) × (d ∣ unsigned_abs a))
+NoInverseIsCommonDivisor = (m a : ℤ) → m ≢ pos 0 →
+    ((i : ℤ) → ¬ IsInverse m a i) ↔ HaveCommonDivisor m a
 
 -- a rounded integer is the nearest multiple of the power of ten, and the even one of two as near
 abbrev pub RoundingIsNearest : Type 0
@@ -26,11 +27,13 @@ RoundingIsNearest = (z : ℤ) (d : ℕ) → IsNearestMultiple (10 ^ d) z (rounde
 
 -- the bytes of an integer spell it, in one order and with one way of signs
 abbrev pub BytesSpellTheNumber : Type 0
-BytesSpellTheNumber = (order : ArgByteOrder) (signed : Bool) (k : ℕ) (z : ℤ) → holds signed k z ≡ true → number_of signed (in_order order (bytes_in order k z)) ≡ z
+BytesSpellTheNumber = (order : ArgByteOrder) (signed : Bool) (k : ℕ) (z : ℤ) →
+    holds signed k z ≡ true → number_of signed (in_order order (bytes_in order k z)) ≡ z
 
 -- what is printed of an integer is read back as the integer, in base 10 and in base 0
 abbrev pub ReprReadsBack : Type 0
-ReprReadsBack = (z : ℤ) → wide z ≡ false → (int_of 10 (signed_decimal z) ≡ Ok z) × (int_of 0 (signed_decimal z) ≡ Ok z)
+ReprReadsBack = (z : ℤ) → wide z ≡ false →
+    (int_of 10 (signed_decimal z) ≡ Ok z) × (int_of 0 (signed_decimal z) ≡ Ok z)
 
 abbrev pub EqualNumbersHashAlike : Type 0
 EqualNumbersHashAlike = (a b : ℤ) → a ≡ b → int_hash a ≡ int_hash b

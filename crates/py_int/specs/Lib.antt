@@ -2,8 +2,10 @@ pub mod Bits
 pub mod Boolean
 pub mod Bytes
 pub mod Divide
+pub mod Inverse
 pub mod Laws
 pub mod Literal
+pub mod Modular
 pub mod Number
 pub mod Power
 pub mod Residue

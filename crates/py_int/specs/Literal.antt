@@ -1,4 +1,4 @@
--- Literals of integers. A sign and a prefix are read from the front; the digits after them are one number, up to the end.
+-- Literals of integers: a sign and a prefix are read from the front, and the rest is digits.
 use Rattle.std.specs.Prelude.{ℕ, ◌+◌, ◌-◌, ◌*◌, ◌^◌, ◌==◌, min, nat_lt, nat_le, ℤ, pos, neg_ℤ, Bool, true, false, ◌&&◌, ◌||◌, List, [], ◌∷◌, drop, Option, None, Some, option_map, Result, Err, if◌then◌else◌}
 use Rattle.std.specs.Char.{digit_value}
 use Rattle.py_base.specs.Chars.Whitespace.{is_ascii_whitespace, trim}
@@ -29,7 +29,8 @@ abbrev pub prefix_at : ℕ → List ℕ → Option ℕ
 prefix_at base (z ∷ c ∷ cs) = if z == 48 then allowed base (find prefix_bases c) else None
 prefix_at base cs = None
 
--- digits of a base after the number n, with single underscores between; `digit` where a digit was read last, so that an underscore or the end may follow
+-- digits of a base after the number n, with single underscores between
+-- (`digit`: a digit was read last, so that an underscore or the end may follow)
 abbrev pub digits_after : ℕ → Bool → ℕ → List ℕ → Option ℕ
 digits_after base digit n [] = if digit then Some n else None
 digits_after base digit n (c ∷ cs) =
@@ -84,10 +85,11 @@ abbrev pub literal_result : ℕ → Option ℤ → Result ℤ PyError
 literal_result base None = Err (InvalidLiteral base)
 literal_result base (Some z) = carried z
 
--- what a text reads as: the base is tested first, then the literal, and then whether the integer is too wide
+-- what a text reads as: the base is tested first, then the literal, then whether it is too wide
 abbrev pub int_of : ℕ → List ℕ → Result ℤ PyError
 int_of base cs =
-    if is_base base then literal_result base (literal base (trim is_ascii_whitespace cs)) else Err BadBase
+    if is_base base then literal_result base (literal base (trim is_ascii_whitespace cs))
+    else Err BadBase
 
 -- at most 2^128 - 1, where a reader stops to count
 abbrev pub saturated : Option ℕ → Option ℕ

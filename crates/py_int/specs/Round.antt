@@ -1,6 +1,8 @@
 -- Integers rounded to tens, hundreds and so on.
-use Rattle.std.specs.Prelude.{◌≡◌, ◌≢◌, ◌≤◌, ◌-ℤ◌, ◌*ℤ◌, Bool, false, ℕ, ◌+◌, ◌*◌, ◌/◌, ◌%◌, ◌^◌, ◌==◌, ◌&&◌, ◌||◌, nat_lt, ℤ, pos, negsuc, neg_ℤ, unsigned_abs, if◌then◌else◌}
+use Rattle.std.specs.Prelude.{◌≡◌, ◌≢◌, ◌≤◌, ◌-ℤ◌, ◌*ℤ◌, ◌<ℤ◌, Result, false, ℕ, ◌+◌, ◌*◌, ◌/◌, ◌%◌, ◌^◌, ◌==◌, ◌&&◌, ◌||◌, nat_lt, ℤ, pos, negsuc, neg_ℤ, unsigned_abs, if◌then◌else◌}
+use Rattle.py_base.specs.declared.error.PyError.{PyError}
 use Rattle.py_int.specs.Bits.{is_odd}
+use Rattle.py_int.specs.Number.{Carries}
 
 -- the integer nearest to n / u, ties to even
 abbrev pub nearest : ℕ → ℕ → ℕ
@@ -16,12 +18,17 @@ with_sign_of (negsuc m) n = neg_ℤ (pos n)
 abbrev pub rounded : ℤ → ℕ → ℤ
 rounded z d = with_sign_of z (10 ^ d * nearest (unsigned_abs z) (10 ^ d))
 
+-- r is z rounded to so many places, where there are less than none
+abbrev pub IsCut : ℤ → ℤ → Result ℤ PyError → Type 0
+IsCut z places r = places <ℤ pos 0 → Carries (rounded z (unsigned_abs places)) r
+
 abbrev pub distance : ℤ → ℤ → ℕ
 distance a b = unsigned_abs (a -ℤ b)
 
--- r is a multiple of u, no multiple of u is nearer to z, and where another one is as near, the quotient of r is even
+-- r is a multiple of u; none is nearer to z; where another is as near, r's quotient is even
 pub record IsNearestMultiple (u : ℕ) (z r : ℤ) : Type 0 where
   pub quotient : ℤ
   pub multiple : r ≡ pos u *ℤ quotient
   pub nearest_one : (k : ℤ) → distance z r ≤ distance z (pos u *ℤ k)
-  pub ties_to_even : (k : ℤ) → k ≢ quotient → distance z r ≡ distance z (pos u *ℤ k) → is_odd quotient ≡ false
+  pub ties_to_even : (k : ℤ) →
+      k ≢ quotient → distance z r ≡ distance z (pos u *ℤ k) → is_odd quotient ≡ false

@@ -7,7 +7,7 @@ ghost use Rattle.py_int.specs.Number.{Carries, Gives};
 use crate::number::PyInt;
 use py_base::{PyError, PyResult};
 
-// The number of a checked operation.
+// The integer of a checked operation.
 pub(crate) fn carry(value: Option<i128>) -> PyResult<PyInt>
     ensures { Gives value result }
 {

@@ -1,4 +1,5 @@
-//! The calls that answer the number itself, and its truth, hash, real and imaginary part.
+//! The attributes of an integer, the conversions that answer the integer itself, its bool and its
+//! hash: "Numeric Types" and "Truth Value Testing" of the Python Library Reference.
 
 ghost use Rattle.std.specs.Prelude.{◌≡◌, ◌≢◌, ◌↔◌, ℤ, pos, IsTrue};
 ghost use Rattle.py_base.specs.Hash.{int_hash};
@@ -70,7 +71,7 @@ impl PyInt {
         *self
     }
 
-    /// The argument from which `int` makes the number again.
+    /// The argument from which `int` makes the integer again.
     pub fn getnewargs(&self) -> PyInt
         ensures { result ≡ self.now }
     {

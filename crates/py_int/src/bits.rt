@@ -39,7 +39,7 @@ impl PyInt {
         PyInt::from(!self.as_i128())
     }
 
-    /// The number modulo 2^32.
+    /// The integer modulo 2^32.
     pub fn as_u32_mask(&self) -> u32
         ensures { pos result ≡ floor_mod self.now (pos (2 ^ 32)) }
     {

@@ -1,4 +1,4 @@
-//! Truth values, Python's `bool`.
+//! Bools: "Boolean Type - bool" of the Python Library Reference.
 
 ghost use Rattle.std.specs.Prelude.{◌≡◌, Bool, ◌&&◌, ◌||◌};
 ghost use Rattle.std.proofs.Math.Bool.{xor};
@@ -7,7 +7,7 @@ ghost use Rattle.py_int.specs.Boolean.{int_of_bool, repr_of_bool};
 use crate::number::PyInt;
 use std::marker::Model;
 
-/// A truth value.
+/// Python's `bool`.
 #[derive(Clone, Copy, Debug, PartialEq, Eq, PartialOrd, Ord, Hash)]
 pub struct PyBool {
     value: bool,
@@ -24,14 +24,14 @@ impl Model for PyBool {
 }
 
 impl PyBool {
-    /// The truth value.
+    /// The bool of Rust's.
     pub fn new(value: bool) -> PyBool
         ensures { result ≡ value }
     {
         PyBool { value }
     }
 
-    /// The truth value as Rust has it.
+    /// The bool as Rust's.
     pub fn value(&self) -> bool
         ensures { result ≡ self.now }
     {

@@ -1,17 +1,18 @@
-//! Numbers from bytes and to bytes: "Additional Methods on Integer Types" of the Python Library
+//! Integers from bytes and to bytes: "Additional Methods on Integer Types" of the Python Library
 //! Reference.
 
-ghost use Rattle.std.specs.Prelude.{◌≡◌, ◌<◌, ◌≤◌, ◌^◌, true, false, length, slice_index, IfOk, IfErr, MatchOption, Err};
+ghost use Rattle.std.specs.Prelude.{◌≡◌, ◌<◌, ◌≤◌, ◌^◌, true, false, length, slice_index, IfOk, IfErr, Err};
 ghost use Rattle.std.specs.Int.{complement_if};
 ghost use Rattle.std.specs.Int.Digits.{number_from_digits};
 ghost use Rattle.py_base.specs.declared.error.PyError.TheVariants.{NoMemory, NegativeToUnsigned, IntTooBig};
-ghost use Rattle.py_int.specs.Number.{Carries};
+ghost use Rattle.py_int.specs.Number.{Carries, IsNarrow};
 ghost use Rattle.py_int.specs.Divide.{floor_of};
-ghost use Rattle.py_int.specs.Bytes.{in_order, number_of, bytes_in, holds, lacks_sign, is_within, low_byte, low_bytes, is_high, digits_if};
+ghost use Rattle.py_int.specs.Bytes.{in_order, number_of, bytes_in, holds, lacks_sign, is_within, low_byte, low_bytes, is_high, digits_if, size, IsTooBig};
 
 use crate::number::PyInt;
 use crate::shift::down;
 use py_base::{PyError, PyResult};
+use py_text::PyBytes;
 use std::alloc::Global;
 
 /// Which byte comes first.
@@ -34,7 +35,7 @@ fn byte_at(bytes: &[u8], byteorder: ArgByteOrder, place: usize) -> u8
     }
 }
 
-// The digit `place` of the number that the bytes spell, or how far it is below 255 if `turned`.
+// The digit `place` of the integer that the bytes spell, or its complement to 255.
 fn digit_at(bytes: &[u8], byteorder: ArgByteOrder, place: usize, turned: bool) -> u8
     requires { place < length bytes.now }
     ensures { result ≡ slice_index (digits_if turned (in_order byteorder bytes.now)) place }
@@ -43,17 +44,16 @@ fn digit_at(bytes: &[u8], byteorder: ArgByteOrder, place: usize, turned: bool) -
     if turned { 255 - byte } else { byte }
 }
 
-// The bytes spell a number below 0.
+// The bytes spell an integer below 0.
 fn spells_negative(bytes: &[u8], byteorder: ArgByteOrder, signed: bool) -> bool
     ensures { result ≡ is_high signed (in_order byteorder bytes.now) }
 {
     signed && !bytes.is_empty() && byte_at(bytes, byteorder, 0) >= 128
 }
 
-// The number that the bytes spell without a sign, each digit turned round if `turned`; none from
-// 2^127 on.
+// The integer of the digits, or of their complements, without a sign; none from 2^127 on.
 fn size_of(bytes: &[u8], byteorder: ArgByteOrder, turned: bool) -> Option<u128>
-    ensures { MatchOption result (2 ^ 127 ≤ number_from_digits 256 (digits_if turned (in_order byteorder bytes.now))) (λ n. (n < 2 ^ 127) × (n ≡ number_from_digits 256 (digits_if turned (in_order byteorder bytes.now)))) }
+    ensures { IsNarrow (size turned (in_order byteorder bytes.now)) result }
 {
     let mut size: u128 = 0;
     for place in 0..bytes.len() {
@@ -66,7 +66,7 @@ fn size_of(bytes: &[u8], byteorder: ArgByteOrder, turned: bool) -> Option<u128>
     Some(size)
 }
 
-// The number is below `limit`, or within its half where signed.
+// The integer is below `limit`, or within its half where signed.
 fn within(value: i128, limit: u128, signed: bool) -> bool
     ensures { result ≡ is_within signed limit value }
 {
@@ -81,7 +81,7 @@ fn within(value: i128, limit: u128, signed: bool) -> bool
     }
 }
 
-// `length` bytes hold the number; 16 hold every one.
+// `length` bytes hold the integer; 16 hold every one.
 fn is_held(value: i128, length: usize, signed: bool) -> bool
     ensures { result ≡ holds signed length value }
 {
@@ -104,7 +104,7 @@ fn without_low_byte(value: PyInt) -> PyInt
     down(value.as_i128(), 8)
 }
 
-// `length` bytes of the number, the lowest first.
+// `length` bytes of the integer, the lowest first.
 fn low_bytes_of(alloc: Global, value: PyInt, length: usize) -> PyResult<Vec<u8>>
     ensures ok { IfOk result (λ v. v.items ≡ low_bytes length value) }
     ensures err { IfErr result (λ e. e ≡ NoMemory) }
@@ -118,7 +118,7 @@ fn low_bytes_of(alloc: Global, value: PyInt, length: usize) -> PyResult<Vec<u8>>
     Ok(bytes)
 }
 
-// The number, or -1 less the number.
+// The integer, or its complement to -1.
 fn complement(size: u128, negative: bool) -> PyInt
     requires { size < 2 ^ 127 }
     ensures { result ≡ complement_if negative size }
@@ -132,8 +132,8 @@ fn complement(size: u128, negative: bool) -> PyInt
 }
 
 impl PyInt {
-    /// `int.from_bytes(bytes, byteorder, signed=signed)`. No bytes give 0; bytes that say nothing may
-    /// stand before the number, as many as there are.
+    /// `int.from_bytes(bytes, byteorder, signed=signed)`. No bytes give 0, and any number of bytes
+    /// that say nothing may be before the integer.
     pub fn from_bytes(bytes: &[u8], byteorder: ArgByteOrder, signed: bool) -> PyResult<PyInt>
         ensures { Carries (number_of signed (in_order byteorder bytes.now)) result }
     {
@@ -144,33 +144,32 @@ impl PyInt {
         }
     }
 
-    /// The bytes of `self.to_bytes(length, byteorder, signed=signed)`: `length` of them, or
+    /// `self.to_bytes(length, byteorder, signed=signed)`: exactly `length` bytes, or
     /// `NegativeToUnsigned`, or `IntTooBig`.
-    pub(crate) fn bytes_of(
+    pub fn to_bytes(
         &self,
         alloc: Global,
         length: usize,
         byteorder: ArgByteOrder,
         signed: bool,
-    ) -> PyResult<Vec<u8>>
+    ) -> PyResult<PyBytes>
         ensures negative { lacks_sign signed self.now ≡ true → result ≡ Err NegativeToUnsigned }
-        ensures big { lacks_sign signed self.now ≡ false → holds signed length self.now ≡ false → result ≡ Err IntTooBig }
-        ensures ok { IfOk result (λ v. v.items ≡ bytes_in byteorder length self.now) }
+        ensures big { IsTooBig signed length self.now → result ≡ Err IntTooBig }
+        ensures ok { IfOk result (λ bytes. bytes ≡ bytes_in byteorder length self.now) }
         ensures memory { holds signed length self.now ≡ true → IfErr result (λ e. e ≡ NoMemory) }
     {
-        let value = self.as_i128();
-        if value < 0 && !signed {
+        if self.as_i128() < 0 && !signed {
             return Err(PyError::NegativeToUnsigned);
         }
-        if !is_held(value, length, signed) {
+        if !is_held(self.as_i128(), length, signed) {
             return Err(PyError::IntTooBig);
         }
         let mut bytes = low_bytes_of(alloc, *self, length)?;
         match byteorder {
-            ArgByteOrder::Little => Ok(bytes),
+            ArgByteOrder::Little => Ok(PyBytes::from(bytes)),
             ArgByteOrder::Big => {
                 bytes.reverse();
-                Ok(bytes)
+                Ok(PyBytes::from(bytes))
             }
         }
     }

@@ -1,33 +1,58 @@
 //! Division that rounds down: `//`, `%` and `divmod` of "Numeric Types" of the Python Library
 //! Reference.
 
-ghost use Rattle.std.specs.Prelude.{◌≡◌, ◌≢◌, ◌<◌, ℤ, pos, Ok, Err};
+ghost use Rattle.std.specs.Prelude.{◌≡◌, ◌≢◌, ◌<◌, ◌≤◌, ◌/◌, ◌%◌, ◌^◌, ℤ, pos, Ok, Err};
 ghost use Rattle.std.specs.Prelude.{unsigned_abs};
 ghost use Rattle.py_base.specs.declared.error.PyError.TheVariants.{ZeroDivision};
 ghost use Rattle.py_base.specs.declared.error.causes.ZeroKind.TheVariants.{Division, Modulo, Both};
 ghost use Rattle.py_int.specs.Number.{Carries};
+ghost use Rattle.py_int.specs.Divide as spec;
 ghost use Rattle.py_int.specs.Divide.{floor_div, floor_mod, divided};
 
 use crate::number::PyInt;
-use crate::residue::{rest_by, signed_rest};
+use crate::residue::{magnitude_of, residue_from, rest_by, signed_rest};
+use crate::round::give_sign;
 use py_base::{PyError, PyResult, ZeroKind};
 
-// The floor of a / b. Only -2^127 / -1 is too wide.
-fn quotient(a: i128, b: i128) -> PyResult<PyInt>
+// The size of a over that of b, rounded down, and what is left: one division.
+fn divided_sizes(a: PyInt, b: PyInt) -> (u128, u128)
     requires { b ≢ pos 0 }
+    ensures quotient { result.0 ≡ unsigned_abs a / unsigned_abs b }
+    ensures rest { result.1 ≡ unsigned_abs a % unsigned_abs b }
+    ensures small { result.0 ≤ 2 ^ 127 }
+    ensures below { result.1 < unsigned_abs b }
+{
+    let size = magnitude_of(a);
+    let by = magnitude_of(b);
+    let quotient = size / by;
+    (quotient, size - quotient * by)
+}
+
+fn signs_differ(a: PyInt, b: PyInt) -> bool
+    ensures { result ≡ spec.signs_differ a b }
+{
+    (a.as_i128() < 0) != (b.as_i128() < 0)
+}
+
+fn rounded_up(quotient: u128, rest: u128) -> u128
+    requires { quotient ≤ 2 ^ 127 }
+    ensures { result ≡ spec.rounded_up quotient rest }
+{
+    if rest == 0 { quotient } else { quotient + 1 }
+}
+
+// The floor of a / b, from what is left of their sizes. Only -2^127 / -1 is too wide.
+fn floor_from(a: PyInt, b: PyInt, quotient: u128, rest: u128) -> PyResult<PyInt>
+    requires some { b ≢ pos 0 }
+    requires quotient { quotient ≡ unsigned_abs a / unsigned_abs b }
+    requires rest { rest ≡ unsigned_abs a % unsigned_abs b }
+    requires small { quotient ≤ 2 ^ 127 }
     ensures { Carries (floor_div a b) result }
 {
-    if (a < 0) == (b < 0) {
-        let magnitude = a.unsigned_abs() / b.unsigned_abs();
-        if magnitude > i128::MAX as u128 {
-            return Err(PyError::IntTooWide);
-        }
-        Ok(PyInt::from(magnitude as i128))
-    } else if a == 0 {
-        Ok(PyInt::from(0i128))
+    if signs_differ(a, b) {
+        give_sign(rounded_up(quotient, rest), -1)
     } else {
-        let magnitude = (a.unsigned_abs() - 1) / b.unsigned_abs();
-        Ok(PyInt::from(-1 - magnitude as i128))
+        PyInt::try_from_u128(quotient)
     }
 }
 
@@ -39,6 +64,16 @@ fn remainder(a: PyInt, b: PyInt) -> PyInt
     signed_rest(rest_by(a, b), b)
 }
 
+// The same, from what is left of their sizes.
+fn remainder_from(a: PyInt, b: PyInt, rest: u128) -> PyInt
+    requires some { b ≢ pos 0 }
+    requires rest { rest ≡ unsigned_abs a % unsigned_abs b }
+    requires below { rest < unsigned_abs b }
+    ensures { result ≡ floor_mod a b }
+{
+    signed_rest(residue_from(a, rest, b), b)
+}
+
 impl PyInt {
     /// `self // other`, or `ZeroDivision`.
     pub fn floordiv(&self, other: PyInt) -> PyResult<PyInt>
@@ -48,7 +83,8 @@ impl PyInt {
         if other.as_i128() == 0 {
             return Err(PyError::ZeroDivision(ZeroKind::Division));
         }
-        quotient(self.as_i128(), other.as_i128())
+        let (quotient, rest) = divided_sizes(*self, other);
+        floor_from(*self, other, quotient, rest)
     }
 
     /// `other // self`.
@@ -86,8 +122,9 @@ impl PyInt {
         if other.as_i128() == 0 {
             return Err(PyError::ZeroDivision(ZeroKind::Both));
         }
-        match quotient(self.as_i128(), other.as_i128()) {
-            Ok(floor) => Ok((floor, remainder(*self, other))),
+        let (quotient, rest) = divided_sizes(*self, other);
+        match floor_from(*self, other, quotient, rest) {
+            Ok(floor) => Ok((floor, remainder_from(*self, other, rest))),
             Err(error) => Err(error),
         }
     }

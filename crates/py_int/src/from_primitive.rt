@@ -1,4 +1,4 @@
-//! Numbers from Rust's whole-number types up to 64 bits.
+//! Integers from Rust's integer types up to 64 bits.
 
 ghost use Rattle.std.specs.Prelude.{◌≡◌, pos};
 

@@ -1,11 +1,12 @@
-//! The inverse of a number under a modulus, by Euclid's division.
+//! The inverse of an integer under a modulus, by Euclid's division.
 
-ghost use Rattle.std.specs.Prelude.{◌≡◌, ◌≢◌, ◌<◌, ◌*◌, ◌%◌, ℕ, MatchOption};
+ghost use Rattle.std.specs.Prelude.{◌<◌, MatchOption};
+ghost use Rattle.py_int.specs.Inverse.{HasNoInverse, IsInverseBelow};
 
 /// The i below the modulus for which `base * i` leaves what 1 leaves, if there is one.
 pub(crate) fn inverse_under(base: u128, modulus: u128) -> Option<u128>
     requires { base < modulus }
-    ensures { MatchOption result ((i : ℕ) → (base * i) % modulus ≢ 1 % modulus) (λ i. (i < modulus) × ((base * i) % modulus ≡ 1 % modulus)) }
+    ensures { MatchOption result (HasNoInverse modulus base) (IsInverseBelow modulus base) }
 {
     let mut before = modulus;
     let mut rest = base;

@@ -28,17 +28,17 @@ pub fn repr_reads_back()
     ensures { ReprReadsBack }
 {}
 
-/// `from_bytes` of what `to_bytes` gave is the number, under one byte order and signedness.
+/// `from_bytes` of what `to_bytes` gave is the integer, under one byte order and signedness.
 pub fn bytes_spell_the_number()
     ensures { BytesSpellTheNumber }
 {}
 
-/// Equal numbers hash alike.
+/// Equal integers hash alike.
 pub fn equal_numbers_hash_alike()
     ensures { EqualNumbersHashAlike }
 {}
 
-/// The order of two, which sorts and maps use, is the order of their numbers.
+/// The order of two, which sorts and maps use, is the order of the integers that they hold.
 pub fn order_is_the_numbers()
     ensures { (a b : ℤ) → ⟦<PyInt as Ord>⟧.cmp a b ≡ int_cmp a b }
 {}
@@ -48,17 +48,18 @@ pub fn comparison_is_the_numbers()
     ensures { (a b : ℤ) → ⟦<PyInt as PartialOrd>⟧.partial_cmp a b ≡ Some (int_cmp a b) }
 {}
 
-/// One is less just where its number is.
+/// One is less exactly where the integer that it holds is.
 pub fn less_is_the_numbers()
     ensures { (a b : ℤ) → IsTrue (partial_lt ⟦<PyInt as PartialOrd>⟧.partial_cmp a b) ↔ (a <ℤ b) }
 {}
 
-/// Two are equal just where their numbers are.
+/// Two are equal exactly where the integers that they hold are.
 pub fn equality_is_the_numbers()
     ensures { (a b : ℤ) → IsTrue (⟦<PyInt as PartialEq>⟧.eq a b) ↔ (a ≡ b) }
 {}
 
-/// A number has its bits alone: what `and`, `or`, `xor` and `invert` answer is the one number.
+/// Two integers with the same bits are one: so the bits of what `and`, `or`, `xor` and `invert`
+/// answer say which integer it is.
 pub fn numbers_are_their_bits()
     ensures { NumbersAreTheirBits }
 {}

@@ -1,5 +1,5 @@
-//! Whole numbers within 128 bits, as Python's `int` has them, and truth values. A call is refused
-//! as too wide exactly where its mathematical result is below -2^127 or above 2^127 - 1.
+//! Integers within 128 bits, as Python's `int` has them, and bools. A call fails with `IntTooWide`
+//! exactly where its mathematical result is below -2^127 or above 2^127 - 1.
 #![tactic(auto)]
 
 mod arithmetic;
@@ -16,7 +16,6 @@ mod modular;
 mod number;
 mod power;
 mod primitive;
-mod printing;
 mod residue;
 mod round;
 mod shift;

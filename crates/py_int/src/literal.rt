@@ -72,8 +72,8 @@ fn grown(size: u128, base: u8, digit: u8) -> u128
     }
 }
 
-// All digits are read, also those of a number that is too wide: a text that is no literal is told
-// before it.
+// All digits are read, also those of an integer that is too wide, since a text that is no literal
+// fails with `InvalidLiteral` first.
 fn digits(text: &[u8], base: u8) -> Option<u128>
     requires some { 0 < base }
     requires base { base ≤ 36 }

@@ -1,11 +1,10 @@
-//! Powers: `**` and `pow` of the Python Library Reference.
+//! Powers: `**` of "Numeric Types" and `pow` of "Built-in Functions" of the Python Library Reference.
 
 ghost use Rattle.std.specs.Prelude.{◌≡◌, ◌≢◌, ◌≤◌, ℤ, pos, ◌<ℤ◌, ◌≤ℤ◌, IfSome, IfNone, IfOk, IfErr, Err, unsigned_abs};
 ghost use Rattle.py_base.specs.declared.error.PyError.TheVariants.{NotCarried, NotInvertible};
 ghost use Rattle.py_base.specs.declared.error.causes.CarryKind.TheVariants.{NegativePower};
-ghost use Rattle.py_int.specs.Number.{Carries};
 ghost use Rattle.py_int.specs.Divide.{floor_mod};
-ghost use Rattle.py_int.specs.Power.{power, IsInverse, IsInversePower, IsModularPower};
+ghost use Rattle.py_int.specs.Power.{power, IsInverse, IsInversePower, IsModularPower, IsPower};
 
 use crate::arithmetic::carry;
 use crate::inverse::inverse_under;
@@ -59,11 +58,11 @@ fn inverse_power_under(base: PyInt, exp: PyInt, modulus: PyInt) -> PyResult<PyIn
 }
 
 impl PyInt {
-    /// `pow(self, exp, modulus)`, as `modpow`; without a modulus `self ** exp`, or `NotCarried` where
-    /// `exp` is negative.
+    /// `pow(self, exp, modulus)`, as `modpow`; without a modulus `self ** exp`, or `NotCarried`
+    /// where `exp` is negative.
     pub fn pow(&self, exp: PyInt, modulus: Option<PyInt>) -> PyResult<PyInt>
         ensures negative { IfNone modulus (exp <ℤ pos 0 → result ≡ Err (NotCarried NegativePower)) }
-        ensures value { IfNone modulus (pos 0 ≤ℤ exp → Carries (power self.now (unsigned_abs exp)) result) }
+        ensures value { IfNone modulus (IsPower self.now exp result) }
         ensures modular { IfSome modulus (λ m. IsModularPower self.now exp m result) }
     {
         match modulus {
@@ -75,7 +74,7 @@ impl PyInt {
     /// `base ** self`.
     pub fn rpow(&self, base: PyInt) -> PyResult<PyInt>
         ensures negative { self.now <ℤ pos 0 → result ≡ Err (NotCarried NegativePower) }
-        ensures value { pos 0 ≤ℤ self.now → Carries (power base (unsigned_abs self.now)) result }
+        ensures value { IsPower base self.now result }
     {
         let exp = self.as_i128();
         let value = base.as_i128();
@@ -90,8 +89,8 @@ impl PyInt {
         }
     }
 
-    /// `pow(self, exp, modulus)`: `ModulusZero` where the modulus is 0; the power of the inverse where
-    /// `exp` is negative, or `NotInvertible`. Its products are never too wide.
+    /// `pow(self, exp, modulus)`: `ModulusZero` where the modulus is 0; the power of the inverse
+    /// where `exp` is negative, or `NotInvertible`. Its products are never too wide.
     pub fn modpow(&self, exp: PyInt, modulus: PyInt) -> PyResult<PyInt>
         ensures { IsModularPower self.now exp modulus result }
     {

@@ -1,4 +1,4 @@
-//! Rust's whole-number types, as a number becomes one of them.
+//! Rust's integer types, and integers as values of them.
 
 ghost use Rattle.std.specs.Prelude.{◌≡◌, ℤ, pos, ◌≤ℤ◌, ◌↔◌, ◌-◌, ◌^◌, negsuc, IsOk, IfOk, IfErr};
 ghost use Rattle.py_base.specs.declared.error.PyError.TheVariants.{IntTooLargeFor};
@@ -8,7 +8,7 @@ ghost use Rattle.py_base.specs.declared.error.type_names.PrimitiveName.TheVarian
 use crate::number::PyInt;
 use py_base::{PrimitiveName, PyError, PyResult};
 
-/// A whole-number type of Rust.
+/// An integer type of Rust.
 pub trait Primitive: Sized {
     ghost number: { Self → ℤ };
 
@@ -18,7 +18,7 @@ pub trait Primitive: Sized {
 
     ghost type_name: { PrimitiveName };
 
-    /// The same number in this type, or `IntTooLargeFor` with its name.
+    /// The same integer in this type, or `IntTooLargeFor` with its name.
     fn from_int(value: PyInt) -> PyResult<Self>
         ensures same { IfOk result (λ x. number x ≡ value) }
         ensures fits { IsOk result ↔ ((least ≤ℤ value) × (value ≤ℤ greatest)) }
@@ -227,7 +227,7 @@ impl Primitive for u128 {
 }
 
 impl PyInt {
-    /// The same number in a whole-number type of Rust, or `IntTooLargeFor` with the type's name.
+    /// The same integer in an integer type of Rust, or `IntTooLargeFor` with the type's name.
     pub fn try_to_primitive<I: Primitive>(&self) -> PyResult<I>
         ensures same { IfOk result (λ x. I.number x ≡ self.now) }
         ensures fits { IsOk result ↔ ((I.least ≤ℤ self.now) × (self.now ≤ℤ I.greatest)) }

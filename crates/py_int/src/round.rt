@@ -4,12 +4,12 @@
 ghost use Rattle.std.specs.Prelude.{◌≡◌, ◌<◌, ◌≤◌, ◌*◌, ◌^◌, ℤ, pos, neg_ℤ, ◌<ℤ◌, ◌≤ℤ◌, IfSome, IfNone, Ok, Err};
 ghost use Rattle.std.specs.Prelude.{unsigned_abs};
 ghost use Rattle.py_int.specs.Number.{Carries};
-ghost use Rattle.py_int.specs.Round.{nearest, rounded, with_sign_of};
+ghost use Rattle.py_int.specs.Round.{IsCut, nearest, with_sign_of};
 
 use crate::number::PyInt;
 use py_base::{PyError, PyResult};
 
-// The multiple of `unit` nearest to `size`, a half going to the even quotient.
+// The multiple of `unit` nearest to `size`, ties to the even quotient.
 fn nearest_multiple(size: u128, unit: u128) -> u128
     requires size { size ≤ 2 ^ 127 }
     requires some { 0 < unit }
@@ -51,12 +51,12 @@ pub(crate) fn give_sign(size: u128, value: i128) -> PyResult<PyInt>
 }
 
 impl PyInt {
-    /// `round(self, ndigits)`: with a negative count of digits the nearest multiple of that power of
-    /// ten, a half going to the even quotient; else the number itself.
+    /// `round(self, ndigits)`: where `ndigits` is negative, the nearest multiple of that power of
+    /// ten, ties to the even quotient; else the integer itself.
     pub fn round(&self, ndigits: Option<PyInt>) -> PyResult<PyInt>
         ensures none { IfNone ndigits (result ≡ Ok self.now) }
         ensures kept { IfSome ndigits (λ d. pos 0 ≤ℤ d → result ≡ Ok self.now) }
-        ensures cut { IfSome ndigits (λ d. d <ℤ pos 0 → Carries (rounded self.now (unsigned_abs d)) result) }
+        ensures cut { IfSome ndigits (λ d. IsCut self.now d result) }
     {
         match ndigits {
             None => Ok(*self),
@@ -66,7 +66,7 @@ impl PyInt {
 
     fn round_to(&self, ndigits: PyInt) -> PyResult<PyInt>
         ensures kept { pos 0 ≤ℤ ndigits → result ≡ Ok self.now }
-        ensures cut { ndigits <ℤ pos 0 → Carries (rounded self.now (unsigned_abs ndigits)) result }
+        ensures cut { IsCut self.now ndigits result }
     {
         let count = ndigits.as_i128();
         if count >= 0 {

@@ -3,13 +3,12 @@
 ghost use Rattle.std.specs.Prelude.{◌≡◌, ◌<◌, ◌^◌, ℤ, pos, ◌<ℤ◌, ◌≤ℤ◌, Ok, Err};
 ghost use Rattle.std.specs.Prelude.{unsigned_abs};
 ghost use Rattle.py_base.specs.declared.error.PyError.TheVariants.{NegativeShift};
-ghost use Rattle.py_int.specs.Number.{Carries};
-ghost use Rattle.py_int.specs.Shift.{shifted_left, shifted_right};
+ghost use Rattle.py_int.specs.Shift.{IsShiftedLeft, IsShiftedRight, shifted_right};
 
 use crate::number::PyInt;
 use py_base::{PyError, PyResult};
 
-// 2^127 has one digit more than the greatest number.
+// 2^127 has one digit more than the greatest integer.
 const DIGITS: i128 = 127;
 
 fn power_of_two(exponent: u32) -> PyInt
@@ -31,7 +30,7 @@ impl PyInt {
     /// `self << bits`, or `NegativeShift`. 0 may be shifted by any count.
     pub fn lshift(&self, bits: PyInt) -> PyResult<PyInt>
         ensures negative { bits <ℤ pos 0 → result ≡ Err NegativeShift }
-        ensures value { pos 0 ≤ℤ bits → Carries (shifted_left self.now (unsigned_abs bits)) result }
+        ensures value { IsShiftedLeft self.now bits result }
     {
         let value = self.as_i128();
         let count = bits.as_i128();
@@ -53,15 +52,16 @@ impl PyInt {
     /// `bits << self` with `bits` as the base.
     pub fn rlshift(&self, base: PyInt) -> PyResult<PyInt>
         ensures negative { self.now <ℤ pos 0 → result ≡ Err NegativeShift }
-        ensures value { pos 0 ≤ℤ self.now → Carries (shifted_left base (unsigned_abs self.now)) result }
+        ensures value { IsShiftedLeft base self.now result }
     {
         base.lshift(*self)
     }
 
-    /// `self >> bits`, or `NegativeShift`. Any count is good: it leaves 0, or -1 of a negative number.
+    /// `self >> bits`, or `NegativeShift`. Any count is good: a large one leaves 0, or -1 of a
+    /// negative integer.
     pub fn rshift(&self, bits: PyInt) -> PyResult<PyInt>
         ensures negative { bits <ℤ pos 0 → result ≡ Err NegativeShift }
-        ensures value { pos 0 ≤ℤ bits → result ≡ Ok (shifted_right self.now (unsigned_abs bits)) }
+        ensures value { IsShiftedRight self.now bits result }
     {
         let count = bits.as_i128();
         if count < 0 {
@@ -76,7 +76,7 @@ impl PyInt {
     /// `base >> self`.
     pub fn rrshift(&self, base: PyInt) -> PyResult<PyInt>
         ensures negative { self.now <ℤ pos 0 → result ≡ Err NegativeShift }
-        ensures value { pos 0 ≤ℤ self.now → result ≡ Ok (shifted_right base (unsigned_abs self.now)) }
+        ensures value { IsShiftedRight base self.now result }
     {
         base.rshift(*self)
     }

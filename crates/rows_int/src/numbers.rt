@@ -74,13 +74,16 @@ fn divisions(rt: HostRuntime) {
     }
 }
 
+fn pair(quotient: i128, rest: i128) -> PyResult<(PyInt, PyInt)> {
+    Ok((int(quotient), int(rest)))
+}
+
 #[test]
 fn pairs(rt: HostRuntime) {
     for (a, b, quotient, rest) in &DIVISIONS {
-        let pair = (int(*quotient), int(*rest));
         assert_eq!(rt;
             [int(*a).divmod(int(*b)), int(*b).rdivmod(int(*a))],
-            [Ok(pair), Ok(pair)]
+            [pair(*quotient, *rest), pair(*quotient, *rest)]
         );
     }
 }
