@@ -5,8 +5,8 @@ ghost use Rattle.py_text.specs.Occurrences.{first_in, last_in, IsAround};
 
 use crate::points::count_points;
 
-// How many code points are before the byte `at` of a text of `count` ones: as many as bytes where all
-// are ASCII, and else counted from the nearer end.
+// How many code points are before the byte `at` of a text of `count` ones: as many as bytes where
+// all are ASCII, and else counted from the nearer end.
 fn places_before(text: &str, at: usize, count: usize) -> usize
     requires boundary { IsCharBoundary text.now at }
     requires counted { count ≡ length (chars text.now) }
