@@ -1,5 +1,5 @@
 -- The pieces between whitespace.
-use Rattle.std.specs.Prelude.{◌≡◌, ◌≢◌, ℕ, zero, suc, Bool, true, false, not, cond, if◌then◌else◌, All, List, [], ◌∷◌, take_while, ℤ, length}
+use Rattle.std.specs.Prelude.{◌≡◌, ◌≢◌, ℕ, zero, suc, Bool, true, false, not, cond, if◌then◌else◌, All, List, [], ◌∷◌, take_while, length}
 use Rattle.std.proofs.Common.{refl, ap, sym, ◌∙◌, subst}
 use Rattle.std.proofs.lemmas.List.Sums.{take_while-cons}
 use Rattle.std.proofs.lemmas.List.Elements.{All-nil, All-cons}

@@ -67,7 +67,7 @@ abbrev pub NoMorePlaces : Type 0
 NoMorePlaces = (n more : ℕ) (start stop : Option ℤ) (step : ℤ) → step ≢ pos 0
     → places_from (n + more) step (stop_of n step stop) (start_of n step start) ≡ places_from n step (stop_of n step stop) (start_of n step start)
 
--- where x stands in a part of a text, the first place found is there and not past it
+-- where x occurs in a part of a text, the first place found is there and not past it
 abbrev pub FirstIsLeast : Type 0
 FirstIsLeast = (x L : List ℕ) (b e a : ℕ) → occurs_at x L b e a ≡ true → (c : ℕ) × (first_in x L b e ≡ Some c) × (occurs_at x L b e c ≡ true) × (c ≤ a)
 

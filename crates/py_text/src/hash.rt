@@ -21,8 +21,8 @@ impl Hash for PyStr {
 }
 
 impl PyStr {
-    /// A hash of the text under a seed, by FNV-1a over its UTF-8 bytes; -2 in the place of -1, as for
-    /// integers.
+    /// A hash of the text under a seed, by FNV-1a over its UTF-8 bytes; -2 in the place of -1, as
+    /// for integers.
     pub fn py_hash(&self, seed: u64) -> i64
         ensures { result ≡ text_hash seed self.now }
     {

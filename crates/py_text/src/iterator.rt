@@ -83,8 +83,8 @@ fn clamped(state: i128, len: usize) -> usize
     }
 }
 
-/// An iterator over the code points of a text. Contracts see the text and the place, or nothing where
-/// it is exhausted: an exhausted iterator keeps no text. No call takes memory.
+/// An iterator over the code points of a text. Contracts see the text and the place, or nothing
+/// where it is exhausted: an exhausted iterator keeps no text. No call takes memory.
 #[derive(Debug, Drop)]
 pub struct PyStrIterator {
     cursor: Option<Cursor>,
@@ -123,10 +123,14 @@ impl PyStrIterator {
         ensures item { result ≡ next_of self.old }
         ensures after { self.new ≡ after_next self.old }
     {
-        let mut cursor = self.cursor.take()?;
-        let c = cursor.next()?;
-        self.cursor = Some(cursor);
-        Some(c)
+        let Some(cursor) = &mut self.cursor else {
+            return None;
+        };
+        let c = cursor.next();
+        if c.is_none() {
+            self.cursor = None;
+        }
+        c
     }
 
     /// How many code points are still to come.
@@ -139,8 +143,8 @@ impl PyStrIterator {
         }
     }
 
-    /// Moves the iterator to a place, in code points, which is clamped to the text. An exhausted one
-    /// stays exhausted.
+    /// Moves the iterator to a place, in code points, clamped to the text. An exhausted one stays
+    /// exhausted.
     pub fn setstate(&mut self, state: i128)
         ensures { self.new ≡ moved_to state self.old }
     {

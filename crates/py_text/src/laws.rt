@@ -1,5 +1,5 @@
-//! Laws of texts and bytes: facts that follow from the definitions, and from each type's own equality
-//! and order.
+//! Laws of texts and bytes: facts that follow from the definitions, and from each type's own
+//! equality and order.
 
 ghost use Rattle.py_text.specs.Laws.{AreEqualAsLists, AreOrderedByFirstDifference, HavePrefixesFirst, AreEqualInOrder, AreComparedAsOrdered, EqualHashes, LengthOfSum, GivesTheRest, NothingPastTheEnd, StaysExhausted, NoMorePlaces, FirstIsLeast, LastIsGreatest, NoMoreOccurrences, NoMoreReplaced, NoMoreWhitespacePieces, PiecesBetweenWhitespace, LinesAreTheText, PiecesAreTheText, PiecesFromRightAreTheText, PartsAreTheText};
 
@@ -111,7 +111,8 @@ pub fn no_more_whitespace_pieces()
     ensures { NoMoreWhitespacePieces }
 {}
 
-/// Of the pieces of `split` without a separator none is empty, and none but the last has whitespace.
+/// Of the pieces of `split` without a separator none is empty, and none but the last has
+/// whitespace.
 pub fn pieces_between_whitespace()
     ensures { PiecesBetweenWhitespace }
 {}

@@ -5,8 +5,8 @@ ghost use Rattle.py_text.specs.Occurrences.{first_in, last_in, IsAround};
 
 use crate::points::count_points;
 
-// How many code points are before the byte `at` of a text of `count` ones: as many as bytes where all
-// are ASCII, and else counted from the nearer end.
+// How many code points are before the byte `at` of a text of `count` ones: as many as bytes where
+// all are ASCII, and else counted from the nearer end.
 fn places_before(text: &str, at: usize, count: usize) -> usize
     requires boundary { IsCharBoundary text.now at }
     requires counted { count ≡ length (chars text.now) }
@@ -47,7 +47,8 @@ pub(crate) fn last_place(text: &str, needle: &str, count: usize) -> Option<usize
 pub(crate) fn around_first<'a>(text: &'a str, needle: &str) -> Option<(&'a str, &'a str, &'a str)>
     ensures text { IfSome result (λ p. IsUtf8 p.0.now × IsUtf8 p.1.now × IsUtf8 p.2.now) }
     ensures middle { IfSome result (λ p. p.1.now ≡ needle.now) }
-    ensures around { let place = first_in (chars needle.now) (chars text.now) 0 (length (chars text.now)) in
+    ensures around { let place =
+        first_in (chars needle.now) (chars text.now) 0 (length (chars text.now)) in
         MatchOption result (place ≡ None) (λ p.
         IsAround (chars needle.now) (chars text.now) place (chars p.0.now) (chars p.2.now)) }
 {
@@ -65,7 +66,8 @@ pub(crate) fn around_first<'a>(text: &'a str, needle: &str) -> Option<(&'a str, 
 pub(crate) fn around_last<'a>(text: &'a str, needle: &str) -> Option<(&'a str, &'a str, &'a str)>
     ensures text { IfSome result (λ p. IsUtf8 p.0.now × IsUtf8 p.1.now × IsUtf8 p.2.now) }
     ensures middle { IfSome result (λ p. p.1.now ≡ needle.now) }
-    ensures around { let place = last_in (chars needle.now) (chars text.now) 0 (length (chars text.now)) in
+    ensures around { let place =
+        last_in (chars needle.now) (chars text.now) 0 (length (chars text.now)) in
         MatchOption result (place ≡ None) (λ p.
         IsAround (chars needle.now) (chars text.now) place (chars p.0.now) (chars p.2.now)) }
 {

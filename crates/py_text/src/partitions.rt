@@ -48,8 +48,8 @@ fn rparted<'a>(text: &'a PyStr, sep: &PyStr) -> Partition<'a>
 }
 
 impl PyStr {
-    /// The text before the first separator, the separator, and the text after it, borrowed; where it
-    /// does not occur, the text and two empty texts. (Python Library Reference, String Methods,
+    /// The text before the first separator, the separator, and the text after it, borrowed; where
+    /// it does not occur, the text and two empty texts. (Python Library Reference, String Methods,
     /// `str.partition`.)
     ///
     /// # Errors

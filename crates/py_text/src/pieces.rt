@@ -10,8 +10,8 @@ use crate::whitespace;
 use py_base::{PyError, PyResult};
 use std::alloc::Global;
 
-/// Where a text is split: at `sep`, or with none at runs of ASCII whitespace, and at most `maxsplit`
-/// times; a negative `maxsplit` sets no limit.
+/// Where a text is split: at `sep`, or with none at runs of ASCII whitespace, and at most
+/// `maxsplit` times; a negative `maxsplit` sets no limit.
 #[derive(Debug, Drop)]
 pub struct SplitArgs {
     pub sep: Option<PyStr>,
@@ -103,7 +103,8 @@ impl PyStr {
     pub fn split(&self, alloc: Global, args: &SplitArgs) -> PyResult<TextList>
         ensures empty { args.now.sep ≡ Some [] → result ≡ Err PyError.EmptySeparator }
         ensures err { args.now.sep ≢ Some [] → IsOkUnless result PyError.NoMemory }
-        ensures ok { IfOk result (λ pieces. pieces ≡ split_by args.now.sep args.now.maxsplit self.now) }
+        ensures ok { IfOk result (λ pieces.
+            pieces ≡ split_by args.now.sep args.now.maxsplit self.now) }
     {
         let text = self.as_str();
         let limit = limit_of(self.len(), args.maxsplit);
@@ -127,7 +128,8 @@ impl PyStr {
     pub fn rsplit(&self, alloc: Global, args: &SplitArgs) -> PyResult<TextList>
         ensures empty { args.now.sep ≡ Some [] → result ≡ Err PyError.EmptySeparator }
         ensures err { args.now.sep ≢ Some [] → IsOkUnless result PyError.NoMemory }
-        ensures ok { IfOk result (λ pieces. pieces ≡ rsplit_by args.now.sep args.now.maxsplit self.now) }
+        ensures ok { IfOk result (λ pieces.
+            pieces ≡ rsplit_by args.now.sep args.now.maxsplit self.now) }
     {
         let text = self.as_str();
         let limit = limit_of(self.len(), args.maxsplit);

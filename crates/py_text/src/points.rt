@@ -76,7 +76,8 @@ fn bytes_before(bytes: &[u8], n: usize) -> usize
     requires { n ≤ spec.starts_in bytes.now }
     ensures inside { result ≤ length bytes.now }
     ensures count { spec.starts_in (take result bytes.now) ≡ n }
-    ensures start { result < length bytes.now → spec.is_start (slice_index bytes.now result) ≡ true }
+    ensures start { result < length bytes.now →
+        spec.is_start (slice_index bytes.now result) ≡ true }
 {
     let (mut at, mut left) = near_before(bytes, n);
     'bytes: while at < bytes.len() {
@@ -116,7 +117,8 @@ fn bytes_before_last(bytes: &[u8], n: usize) -> usize
     requires { n ≤ spec.starts_in bytes.now }
     ensures inside { result ≤ length bytes.now }
     ensures count { spec.starts_in (drop result bytes.now) ≡ n }
-    ensures start { result < length bytes.now → spec.is_start (slice_index bytes.now result) ≡ true }
+    ensures start { result < length bytes.now →
+        spec.is_start (slice_index bytes.now result) ≡ true }
 {
     let (mut at, mut left) = near_before_last(bytes, n);
     'bytes: while left > 0 {

@@ -14,7 +14,8 @@ use std::alloc::Global;
 // The text with `new` in the place of the first `limit` parts `old`, which is not empty.
 fn put_replaced(out: &mut PyStr, text: &str, old: &str, new: &PyStr, limit: usize) -> PyResult<()>
     requires { 0 < length (chars old.now) }
-    ensures ok { OnOk result (out.new ≡ out.old ++ replace limit (chars old.now) new.now (chars text.now)) }
+    ensures ok { OnOk result (
+        out.new ≡ out.old ++ replace limit (chars old.now) new.now (chars text.now)) }
     ensures err { IsOkUnless result PyError.NoMemory }
 {
     let mut rest = text;
@@ -93,8 +94,8 @@ fn put_item(out: &mut PyStr, sep: &PyStr, items: &TextList, i: usize) -> PyResul
     }
 }
 
-// How many bytes the items take with the separator between, for the room that is reserved. No result
-// rests on it.
+// How many bytes the items take with the separator between, for the room that is reserved: no
+// result rests on it.
 fn room_of(sep: &PyStr, items: &TextList) -> usize {
     let mut room = 0usize;
     for i in 0..items.len() {
@@ -107,7 +108,7 @@ fn room_of(sep: &PyStr, items: &TextList) -> usize {
 }
 
 impl PyStr {
-    /// The items with this text between them. (Python Library Reference, String Methods, `str.join`.)
+    /// The items with this text between. (Python Library Reference, String Methods, `str.join`.)
     pub fn join(&self, alloc: Global, items: &TextList) -> PyResult<PyStr>
         ensures ok { IfOk result (λ text. text ≡ join self.now items.now) }
         ensures err { IsOkUnless result PyError.NoMemory }

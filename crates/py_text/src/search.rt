@@ -92,7 +92,8 @@ impl PyStr {
     /// The first place of `args.sub` in the window, in code points from the text's beginning, or
     /// -1. It takes no memory. (Python Library Reference, String Methods, `str.find`.)
     pub fn find(&self, args: &FindArgs) -> isize
-        ensures { result ≡ place_or_minus_one (find args.now.sub self.now args.now.start args.now.end) }
+        ensures { result
+            ≡ place_or_minus_one (find args.now.sub self.now args.now.start args.now.end) }
     {
         signed(first_in_window(self, args))
     }
@@ -100,7 +101,8 @@ impl PyStr {
     /// The last place of `args.sub` in the window, in code points from the text's beginning, or
     /// -1. It takes no memory. (Python Library Reference, String Methods, `str.rfind`.)
     pub fn rfind(&self, args: &FindArgs) -> isize
-        ensures { result ≡ place_or_minus_one (rfind args.now.sub self.now args.now.start args.now.end) }
+        ensures { result
+            ≡ place_or_minus_one (rfind args.now.sub self.now args.now.start args.now.end) }
     {
         signed(last_in_window(self, args))
     }

@@ -8,8 +8,8 @@ use std::alloc::{AllocError, Global};
 use std::marker::Model;
 use std::rc::Rc;
 
-/// A text that is shared: a clone is the same text, and copies nothing. Contracts see the list of its
-/// code points.
+/// A text that is shared: a clone is the same text, and copies nothing. Contracts see the list of
+/// its code points.
 #[derive(Debug, Drop)]
 pub struct PyStrRef {
     shared: Rc<PyStr>,
@@ -42,8 +42,8 @@ impl PyStrRef {
         &self.shared
     }
 
-    /// Appends a text. It is copied where it is shared, so that others keep it as it was, and grows in
-    /// place where it is not.
+    /// Appends a text. The text is copied where it is shared, so that others keep it as it was, and
+    /// grows in place where it is not.
     pub fn concat_in_place(&mut self, alloc: Global, other: &str) -> PyResult<()>
         ensures ok { OnOk result (self.new ≡ self.old ++ chars other.now) }
         ensures same { OnErr result (self.new ≡ self.old) }

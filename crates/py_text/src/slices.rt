@@ -38,7 +38,8 @@ impl PyStr {
     pub fn do_slice_reverse(&self, alloc: Global, range: Range<usize>) -> PyResult<PyStr>
         requires order { range.start ≤ range.end }
         requires inside { range.end ≤ length self.now }
-        ensures ok { IfOk result (λ made. made ≡ reverse (slice_range self.now range.start range.end)) }
+        ensures ok { IfOk result (λ made.
+            made ≡ reverse (slice_range self.now range.start range.end)) }
         ensures err { IsOkUnless result PyError.NoMemory }
     {
         self.do_stepped_slice_reverse(alloc, range, 1)
@@ -54,7 +55,8 @@ impl PyStr {
         requires order { range.start ≤ range.end }
         requires inside { range.end ≤ length self.now }
         requires forward { 1 ≤ step }
-        ensures ok { IfOk result (λ made. made ≡ every step (slice_range self.now range.start range.end)) }
+        ensures ok { IfOk result (λ made.
+            made ≡ every step (slice_range self.now range.start range.end)) }
         ensures err { IsOkUnless result PyError.NoMemory }
     {
         if step == 1 {

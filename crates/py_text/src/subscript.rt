@@ -40,7 +40,8 @@ impl PyStr {
         step: Option<i128>,
     ) -> PyResult<PyStr>
         ensures zero { step ≡ Some (pos 0) → result ≡ Err PyError.StepZero }
-        ensures ok { IfOk result (λ made. made ≡ slice_of self.now start stop (unwrap_or step (pos 1))) }
+        ensures ok { IfOk result (λ made.
+            made ≡ slice_of self.now start stop (unwrap_or step (pos 1))) }
         ensures err { IfErr result (λ e.
             (e ≡ PyError.NoMemory) ⊎ ((e ≡ PyError.StepZero) × (step ≡ Some (pos 0)))) }
     {

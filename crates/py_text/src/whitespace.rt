@@ -89,8 +89,10 @@ fn drop_trailing_whitespace(text: &str) -> &str
 // How many bytes there are up to the end of the last whitespace.
 fn last_word_start(text: &str) -> usize
     ensures boundary { IsCharBoundary text.now result }
-    ensures word { reverse (chars (drop result text.now)) ≡ spec.until_whitespace (reverse (chars text.now)) }
-    ensures rest { reverse (chars (take result text.now)) ≡ spec.from_whitespace (reverse (chars text.now)) }
+    ensures word { reverse (chars (drop result text.now))
+        ≡ spec.until_whitespace (reverse (chars text.now)) }
+    ensures rest { reverse (chars (take result text.now))
+        ≡ spec.from_whitespace (reverse (chars text.now)) }
 {
     match text.rfind(is_whitespace) {
         Some(at) => end_of_char(text, at),

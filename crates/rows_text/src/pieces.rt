@@ -1,7 +1,7 @@
 //! Splits, lines, partitions, joins and replacements.
 
 use py_base::{PyError, PyResult};
-use py_text::{FindArgs, PyStr, SplitArgs, TextList};
+use py_text::{FindArgs, Partition, PyStr, SplitArgs, TextList};
 use std::alloc::Global;
 
 // Whether there are so many pieces, and they are these with `|` between.
@@ -105,16 +105,13 @@ const PARTS: [(&str, &str, [&str; 3], [&str; 3]); 3] = [
     ("é→é→", "→", ["é", "→", "é→"], ["é→é", "→", ""]),
 ];
 
-// The three parts at the first place, or at the last one.
-fn parted<'a>(t: &'a PyStr, sep: &PyStr, last: bool) -> PyResult<[&'a str; 3]> {
-    let parts = if last {
-        t.rpartition(sep)
-    } else {
-        t.partition(sep)
-    };
+// Whether a text was parted into these.
+fn is_parted(parts: PyResult<Partition<'_>>, wanted: &[&str; 3]) -> bool {
     match parts {
-        Ok(p) => Ok([p.front, p.mid, p.back]),
-        Err(error) => Err(error),
+        Ok(Partition { front, mid, back }) => {
+            front == wanted[0] && mid == wanted[1] && back == wanted[2]
+        }
+        Err(_) => false,
     }
 }
 
@@ -123,8 +120,8 @@ fn parts(rt: HostRuntime) -> Result<(), PyError> {
     for (s, sep, first, last) in &PARTS {
         let t = PyStr::copy_of(rt.alloc(), s)?;
         let sep = PyStr::copy_of(rt.alloc(), sep)?;
-        assert!(rt; parted(&t, &sep, false)? == *first, "{s}");
-        assert!(rt; parted(&t, &sep, true)? == *last, "{s}");
+        assert!(rt; is_parted(t.partition(&sep), first), "{s}");
+        assert!(rt; is_parted(t.rpartition(&sep), last), "{s}");
     }
     Ok(())
 }

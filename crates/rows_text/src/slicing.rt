@@ -1,5 +1,7 @@
 //! Slices and items.
 
+ghost use Rattle.std.specs.Prelude.{◌≡◌, length};
+
 use py_base::{PyError, PyResult};
 use py_text::PyStr;
 use std::alloc::Global;
@@ -12,14 +14,18 @@ const RANGES: [(&str, [&str; 7]); 2] = [
 ];
 
 // Whether the first three slices of a text are these.
-fn is_sliced(alloc: Global, t: &PyStr, wanted: &[&str; 7]) -> PyResult<bool> {
+fn is_sliced(alloc: Global, t: &PyStr, wanted: &[&str; 7]) -> PyResult<bool>
+    requires { length t.now ≡ 5 }
+{
     let copied = t.do_slice(alloc, 1..3)?;
     let back = t.do_slice_reverse(alloc, 1..3)?;
     Ok(t.get_chars(1..3) == wanted[0] && copied.as_str() == wanted[1] && back.as_str() == wanted[2])
 }
 
 // Whether the stepped slices of a text are these.
-fn is_stepped(alloc: Global, t: &PyStr, wanted: &[&str; 7]) -> PyResult<bool> {
+fn is_stepped(alloc: Global, t: &PyStr, wanted: &[&str; 7]) -> PyResult<bool>
+    requires { length t.now ≡ 5 }
+{
     let two = t.do_stepped_slice(alloc, 0..5, 2)?;
     let two_back = t.do_stepped_slice_reverse(alloc, 0..5, 2)?;
     let three = t.do_stepped_slice(alloc, 0..5, 3)?;

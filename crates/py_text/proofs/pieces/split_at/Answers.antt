@@ -1,4 +1,4 @@
-use Rattle.std.proofs.Common.{◌≡◌, ◌-◌, ◌∷◌, ◌++◌, [], List, ℕ, ◌∙◌, ap, subst, arith, chars, IfOk}
+use Rattle.std.proofs.Common.{◌≡◌, ◌-◌, List, ℕ, subst, arith, chars, IfOk}
 use Rattle.py_text.proofs.PieceLemmas.{cutting_none, cutting_more, cutting_stops, cutting_ends}
 use Rattle.py_text.proofs.pieces.split_at.Goals as goal
 

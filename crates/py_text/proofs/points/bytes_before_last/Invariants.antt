@@ -1,4 +1,4 @@
-use Rattle.std.proofs.Common.{length, ◌-◌, ◌≡◌, ◌≤◌, ◌<◌, ◌+◌, drop, true}
+use Rattle.std.proofs.Common.{length, ◌≡◌, ◌≤◌, ◌<◌, ◌+◌, drop, true}
 use Rattle.std.specs.Prelude.{slice_index}
 use Rattle.py_text.specs.Points as spec
 use Rattle.py_text.proofs.points.bytes_before_last.Given as goal

@@ -1,4 +1,4 @@
-use Rattle.std.proofs.Common.{length, ◌-◌, ◌≡◌, ◌≤◌, ◌+◌, drop}
+use Rattle.std.proofs.Common.{length, ◌≡◌, ◌≤◌, ◌+◌, drop}
 use Rattle.py_text.specs.Points as spec
 use Rattle.py_text.proofs.points.near_before_last.Given as goal
 

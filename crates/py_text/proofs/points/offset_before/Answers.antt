@@ -1,4 +1,4 @@
-use Rattle.std.proofs.Common.{sym, ap, ◌∙◌, ◌≡◌, ◌-◌, arith, drop, take, length, chars}
+use Rattle.std.proofs.Common.{ap, ◌-◌, arith, length, chars}
 use Rattle.py_text.specs.Points as spec
 use Rattle.py_text.proofs.StartLemmas.{starts_are_points, place_before, place_after, boundary_at, starts_left}
 use Rattle.py_text.proofs.points.offset_before.Goals as goal

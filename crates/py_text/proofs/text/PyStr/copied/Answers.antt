@@ -1,4 +1,4 @@
-use Rattle.std.proofs.Common.{rules, ◌≡◌, ◌∙◌, ◌<◌, ◌^◌, ◌+◌, [], ap, sym, arith, length, chars, string_bytes}
+use Rattle.std.proofs.Common.{rules, ◌≡◌, ◌∙◌, ◌<◌, ◌^◌, ◌+◌, [], ap, sym, length, chars, string_bytes}
 use Rattle.std.proofs.lemmas.Str.{IsUtf8-string_bytes, chars-nil}
 use Rattle.py_text.proofs.PointLemmas.{appended_count, points_at_most}
 use Rattle.py_text.proofs.SumLemmas.{copies_pushed}

@@ -1,4 +1,4 @@
-use Rattle.std.proofs.Common.{◌≡◌, ◌∙◌, refl, ap, sym, Bool, true, false, if◌then◌else◌, List, ℕ, ◌∷◌, ◌++◌, [], chars, Bor}
+use Rattle.std.proofs.Common.{◌≡◌, ◌∙◌, refl, ap, sym, Bool, true, false, if◌then◌else◌, List, ℕ, chars, Bor}
 use Rattle.py_text.proofs.LineLemmas.{lines_done, lines_more}
 use Rattle.py_text.proofs.text.PyStr.splitlines.Goals as goal
 use Rattle.py_text.proofs.text.PyStr.splitlines.Goals.{then-keepends, else-keepends}
