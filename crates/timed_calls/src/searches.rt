@@ -114,8 +114,12 @@ fn equal(alloc: Global, language: Language, size: u32, times: u32) -> PyResult<i
     let ended = text_with_end(alloc, language, size)?;
     let mut sum = 0i128;
     for i in 0..times {
-        let other = if i % 2 == 0 { &copy } else { &ended };
-        sum = sum.wrapping_add(i128::from(text == *other));
+        let same = if i % 2 == 0 {
+            text == copy
+        } else {
+            text == ended
+        };
+        sum = sum.wrapping_add(i128::from(same));
     }
     Ok(sum)
 }
