@@ -10,8 +10,8 @@ use std::marker::Brand;
 use std::sync::ledger::{Blank, Ledger};
 use std::test::Fail;
 
-// The state after a search of the whole subject.
-fn searched<L: Ledger>(
+// The state after a search of the whole subject, over a new counter of steps.
+fn searched_by<L: Ledger>(
     alloc: Global,
     code: &Checked,
     subject: &[u32],
@@ -26,6 +26,10 @@ fn searched<L: Ledger>(
     let mut state = State::new(alloc);
     let _found = state.search(&request, &mut steps)?;
     Ok(state)
+}
+
+fn searched(alloc: Global, code: &Checked, subject: &[u32]) -> Result<State, MatchError> {
+    searched_by::<Brand>(alloc, code, subject, Blank::new(1))
 }
 
 // The span of group 1, and the group that was closed last.
@@ -67,7 +71,7 @@ const ROWS: [(&[u32], usize, &[u32], Closings); 4] = [
 fn groups(rt: HostRuntime) -> Result<(), Fail> {
     for (words, groups, subject, wanted) in &ROWS {
         let code = decode(rt.alloc(), words, *groups)?;
-        let state = searched::<Brand>(rt.alloc(), &code, subject, Blank::new(1))?;
+        let state = searched(rt.alloc(), &code, subject)?;
         assert_eq!(rt;
             closings(state.marks()),
             *wanted,

@@ -12,4 +12,6 @@ mod large;
 #[cfg(test)]
 mod outcomes;
 #[cfg(test)]
+mod program;
+#[cfg(test)]
 mod walks;

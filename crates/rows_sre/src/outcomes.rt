@@ -40,8 +40,8 @@ fn anywhere<L: Ledger>(
     Ok(span_of(found, &state))
 }
 
-// What `pymatch` and `search` find.
-fn found<L: Ledger>(
+// What `pymatch` and `search` find, over a new counter of steps.
+fn found_by<L: Ledger>(
     alloc: Global,
     request: &Request<'_, PlaceView<'_>>,
     blank: Blank,
@@ -54,6 +54,10 @@ fn found<L: Ledger>(
     let at_start = at_start(alloc, request, &mut steps)?;
     let anywhere = anywhere(alloc, request, &mut steps)?;
     Ok([at_start, anywhere])
+}
+
+fn found(alloc: Global, request: &Request<'_, PlaceView<'_>>) -> Result<[Span; 2], MatchError> {
+    found_by::<Brand>(alloc, request, Blank::new(1))
 }
 
 // Which outcomes are allowed.
@@ -134,7 +138,7 @@ fn parts(rt: HostRuntime) -> Result<(), Fail> {
     for (words, subject, part, wanted) in &PARTS {
         let code = decode(rt.alloc(), words, 0)?;
         let request = request(subject, *part, Allowed::Every, &code);
-        let found = found::<Brand>(rt.alloc(), &request, Blank::new(1))?;
+        let found = found(rt.alloc(), &request)?;
         assert_eq!(rt; found, *wanted, "{words:?} in {subject:?}");
     }
     Ok(())
@@ -148,7 +152,7 @@ fn starts_past_the_end(rt: HostRuntime) -> Result<(), Fail> {
     let code = decode(rt.alloc(), &[1], 0)?;
     for part in &BACKWARDS {
         let request = request(&[97, 98], *part, Allowed::Every, &code);
-        let found = found::<Brand>(rt.alloc(), &request, Blank::new(1))?;
+        let found = found(rt.alloc(), &request)?;
         assert_eq!(rt; found, [None, None], "in {part:?}");
     }
     Ok(())
@@ -189,7 +193,7 @@ fn whole(rt: HostRuntime) -> Result<(), Fail> {
     for (words, subject, end, wanted) in &WHOLE {
         let code = decode(rt.alloc(), words, 0)?;
         let request = request(subject, (0, *end), Allowed::ToTheEnd, &code);
-        let found = found::<Brand>(rt.alloc(), &request, Blank::new(1))?;
+        let found = found(rt.alloc(), &request)?;
         assert_eq!(rt; found, *wanted, "{words:?} in {subject:?}");
     }
     Ok(())
@@ -224,7 +228,7 @@ fn advancing(rt: HostRuntime) -> Result<(), Fail> {
             Allowed::NotEmptyAtTheStart,
             &code,
         );
-        let found = found::<Brand>(rt.alloc(), &request, Blank::new(1))?;
+        let found = found(rt.alloc(), &request)?;
         assert_eq!(rt; found, *wanted, "{words:?} in {subject:?}");
     }
     Ok(())

@@ -12,8 +12,8 @@ use std::test::Fail;
 
 type Spans = Vec<(usize, usize)>;
 
-// The spans of a subject, at most eight.
-fn spans<L: Ledger>(
+// The spans of a subject, at most eight, over a new counter of steps.
+fn spans_by<L: Ledger>(
     alloc: Global,
     code: &Checked,
     subject: &[u32],
@@ -34,6 +34,10 @@ fn spans<L: Ledger>(
         spans.push((walk.state().start(), walk.state().position()))?;
     }
     Ok(spans)
+}
+
+fn spans(alloc: Global, code: &Checked, subject: &[u32]) -> Result<Spans, MatchError> {
+    spans_by::<Brand>(alloc, code, subject, Blank::new(1))
 }
 
 // A code, a subject, and the spans that repeated calls of `scanner.search` give in CPython.
@@ -59,7 +63,7 @@ const ROWS: [(&[u32], &[u32], &[(usize, usize)]); 4] = [
 fn walks(rt: HostRuntime) -> Result<(), Fail> {
     for (words, subject, wanted) in &ROWS {
         let code = decode(rt.alloc(), words, 0)?;
-        let found = spans::<Brand>(rt.alloc(), &code, subject, Blank::new(1))?;
+        let found = spans(rt.alloc(), &code, subject)?;
         assert_eq!(rt; found.as_slice(), *wanted, "{words:?} in {subject:?}");
     }
     Ok(())
