@@ -9,7 +9,8 @@ it ends with 1. Checked are:
 - each link between documents, and the length of README.md;
 - docs/PROVED.md: each call is one of its crate and has just the clauses that the page names, and
   each public call of these crates is on the page;
-- docs/ARCHITECTURE.md: each module is a file, and each file is a module of the page;
+- docs/ARCHITECTURE.md: each crate is on the page, each module is a file, and each file of the
+  crates on the page is a module;
 - docs/DEFINITIONS.md: each name is defined in the files that its section names, and each row that
   is marked as computed is a row of the crate;
 - the sentences of the documents: below 25 words in the mean.
@@ -235,6 +236,13 @@ def missing_calls(crate, calls, named):
             yield f"docs/PROVED.md: {crate}: {call.full_name()} is missing"
 
 
+def crate_faults():
+    text = (TOP / "docs" / "ARCHITECTURE.md").read_text(encoding="utf-8")
+    for name in re.findall(r"^(\w+)(?: staticlib)?:", (TOP / "crates.txt").read_text(encoding="utf-8"), re.MULTILINE):
+        if f"`{name}`" not in text:
+            yield f"docs/ARCHITECTURE.md: the crate {name} is missing"
+
+
 def module_faults():
     for crate, lines in sections("ARCHITECTURE.md"):
         source = CRATES / crate / "src"
@@ -269,7 +277,7 @@ def definition_faults():
 
 def main():
     faults = [*example_faults(), *handles_faults(), *link_faults(), *length_faults(), *proved_faults(),
-              *module_faults(), *definition_faults()]
+              *crate_faults(), *module_faults(), *definition_faults()]
     for fault in faults:
         print(fault, file=sys.stderr)
     return 1 if faults else 0
