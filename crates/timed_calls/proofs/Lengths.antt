@@ -1,7 +1,7 @@
 -- How long a text is that is repeated.
 use Rattle.std.proofs.Common.{◌≡◌, ◌∙◌, ◌+◌, ◌*◌, ◌/◌, ◌<◌, ◌≤◌, ℕ, zero, suc, List, ap, sym, length, length-append, arith}
 use Rattle.std.proofs.Math.Nat.{lt-mul-div-succ, mul_comm, add_comm, suc-mul, zero-mul}
-use Rattle.py_text.specs.Affixes.{copies}
+use Rattle.py_text.specs.Sums.{copies}
 
 pub length_copies : (n : ℕ) (L : List ℕ) → length (copies n L) ≡ n * length L
 length_copies zero L = sym (zero-mul (length L))

@@ -1,7 +1,7 @@
 //! The texts that calls are made on: one block of a hundred code points, repeated.
 
 ghost use Rattle.std.specs.Prelude.{◌≡◌, ◌+◌, ◌-◌, ◌/◌, ◌^◌, ◌<◌, ◌≤◌, length, take, drop, chars, IfOk};
-ghost use Rattle.py_text.specs.Affixes.{copies};
+ghost use Rattle.py_text.specs.Sums.{copies};
 
 use py_base::PyResult;
 use py_text::PyStr;

@@ -1,7 +1,7 @@
 use Rattle.std.proofs.Common.{rules, ◌≡◌, ◌+◌, ◌/◌, ◌<◌, ◌≤◌, length, chars}
 use Rattle.std.proofs.lemmas.List.{length-take-le}
-use Rattle.py_text.specs.Affixes.{copies}
-use Rattle.py_text.proofs.Fronts.{some_chars}
+use Rattle.py_text.specs.Sums.{copies}
+use Rattle.py_text.proofs.UntilLemmas.{some_chars}
 use Rattle.timed_calls.proofs.Lengths.{enough_copies}
 use Rattle.timed_calls.proofs.sample_texts.filled.Goals as goal
 
