@@ -50,15 +50,14 @@ one_text r q more h k e =
     let groups = same_line (codes "groups ") (decimal r.groups) (decimal q.groups) (after_groups r ++ more) (after_groups q) l.groups m.groups (sym (append_assoc (line (codes "groups ") (decimal r.groups)) (after_groups r) more) ∙ words.1) in
     let limit = same_line (codes "limit ") (decimal r.limit) (decimal q.limit) (after_limit r ++ more) (after_limit q) l.limit m.limit (sym (append_assoc (line (codes "limit ") (decimal r.limit)) (after_limit r) more) ∙ groups.1) in
     let template = same_line (codes "list") (template_tokens r.template) (template_tokens q.template) (after_template r ++ more) (after_template q) l.template m.template (sym (append_assoc (line (codes "list") (template_tokens r.template)) (after_template r) more) ∙ limit.1) in
-    let subject = same_line (codes "subject ") (token r.subject) (token q.subject) more [] l.subject m.subject (template.1 ∙ sym (append-nil (after_template q))) in
-    (
+    let subject = same_line (codes "subject ") (token r.subject) (token q.subject) more [] l.subject m.subject (template.1 ∙ sym (append-nil (after_template q))) in (
       request_same r q
-        (same_token r.pattern q.pattern h.pattern k.pattern pattern.0)
-        (same_numbers r.words q.words h.words k.words words.0)
-        (decimal_injective r.groups q.groups h.groups k.groups groups.0)
-        (decimal_injective r.limit q.limit h.limit k.limit limit.0)
-        (same_template r.groups q.groups r.template q.template h.groups k.groups h.template k.template template.0)
-        (same_token r.subject q.subject h.subject k.subject subject.0),
+          (same_token r.pattern q.pattern h.pattern k.pattern pattern.0)
+          (same_numbers r.words q.words h.words k.words words.0)
+          (decimal_injective r.groups q.groups h.groups k.groups groups.0)
+          (decimal_injective r.limit q.limit h.limit k.limit limit.0)
+          (same_template r.groups q.groups r.template q.template h.groups k.groups h.template k.template template.0)
+          (same_token r.subject q.subject h.subject k.subject subject.0),
       subject.1,
     )
 
