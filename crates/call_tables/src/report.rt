@@ -64,7 +64,8 @@ impl Report {
         write!(self.text, "{file}\n")
     }
 
-    /// Adds a line: the call's name, the whole line, the answer that it wants, and what the call gives.
+    /// Adds a line: the call's name, the whole line, the answer that it wants, and what the call
+    /// gives.
     pub fn add(
         &mut self,
         name: &str,

@@ -58,7 +58,8 @@ pub fn place(alloc: Global, outcome: PyResult<usize>) -> Outcome
 }
 
 pub fn ints(alloc: Global, outcome: PyResult<(PyInt, PyInt)>) -> Outcome
-    ensures { Tells (told (λ p. Token.Int p.0 ∷ Token.Int p.1 ∷ []) outcome) (items_of vec_items result) }
+    ensures { Tells (told (λ p. Token.Int p.0 ∷ Token.Int p.1 ∷ []) outcome)
+        (items_of vec_items result) }
 {
     let (first, second) = outcome?;
     let tokens = [Token::Int(first.as_i128()), Token::Int(second.as_i128())];

@@ -31,7 +31,8 @@ impl Call {
     }
 }
 
-/// A call, how many code points its text has (a call on integers has none), and how often it is made.
+/// A call, how many code points its text has (a call on integers has none), and how often it is
+/// made.
 #[derive(Clone, Copy, Debug, PartialEq, Eq)]
 pub struct Request {
     pub call: Call,
