@@ -1,2 +1,5 @@
+pub mod GivesLemmas
+pub mod HoldsLemmas
+pub mod LoopLemmas
 pub mod Points
 pub mod Quotes
