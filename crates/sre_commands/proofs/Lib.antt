@@ -11,3 +11,7 @@ pub mod NumberLemmas
 pub mod TemplateLemmas
 pub mod RequestLemmas
 pub mod EndingLemmas
+pub mod SoundLemmas
+pub mod AgainLemmas
+pub mod ReaderLemmas
+pub mod LeftLemmas
