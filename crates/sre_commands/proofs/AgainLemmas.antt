@@ -21,7 +21,7 @@ use Rattle.sre_commands.specs.declared.error.ParseError.TheVariants.{Malformed}
 use Rattle.sre_commands.specs.Tokens.Reader.{read_past, read_token, read_by_token, with_rest, is_end}
 use Rattle.sre_commands.specs.Tokens.Number.{numbers, group_token, number_in, read_number, read_word, read_words, read_group}
 use Rattle.sre_commands.specs.Tokens.Text.{token, spelled, text_in, read_text}
-use Rattle.sre_commands.specs.Tokens.Cuts.{Lacks}
+use Rattle.sre_commands.proofs.LacksLemmas.{Lacks}
 use Rattle.sre_match.specs.Filling.{Replacement}
 use Rattle.sre_commands.specs.Commands.Sub.Template.{ArePairs, IsTemplate, pair_tokens, template_tokens, read_pair, read_pairs, read_template}
 use Rattle.sre_commands.specs.Commands.Sub.Request.{Request, IsRequest, PlainCode, line, text_of}
@@ -29,8 +29,7 @@ use Rattle.sre_commands.specs.Commands.Sub.Reader.{read_all_words, read_line, re
 use Rattle.sre_commands.proofs.DecimalLemmas.{lacks_decimal}
 use Rattle.sre_commands.proofs.TokenLemmas.{lacks_token}
 use Rattle.sre_commands.proofs.Utf8Lemmas.{encodes_bytes}
-use Rattle.sre_commands.proofs.LineLemmas.{line_is}
-use Rattle.sre_commands.proofs.SoundLemmas.{Is, tokens, code_before, text_before, IsCode, ended}
+use Rattle.sre_commands.proofs.SoundLemmas.{line_is, Is, tokens, code_before, text_before, IsCode, ended}
 use Rattle.py_base.proofs.GivesLemmas.{Gives, it, done, reads, passes, skips, spelled as as_spelled}
 
 same_is : (xs ys : List ℕ) → xs ≡ ys → pointwise nat_eq xs ys ≡ true

@@ -1,14 +1,11 @@
+pub mod LacksLemmas
 pub mod StreamLemmas
 pub mod TextLemmas
 pub mod WalkLemmas
 pub mod Utf8Lemmas
-pub mod CutLemmas
 pub mod DecimalLemmas
 pub mod HexadecimalLemmas
 pub mod TokenLemmas
-pub mod LineLemmas
-pub mod NumberLemmas
-pub mod TemplateLemmas
 pub mod RequestLemmas
 pub mod EndingLemmas
 pub mod SoundLemmas

@@ -13,7 +13,6 @@ use Rattle.std.proofs.lemmas.List.{append-nil, nil_from_length}
 use Rattle.sre_commands.specs.Commands.Sub.Template.{ArePairs, IsTemplate, pair_tokens, template_tokens, read_pair, read_pairs, read_template}
 use Rattle.sre_commands.specs.Commands.Sub.Request.{Request, IsRequest, PlainCode, line, text_of}
 use Rattle.sre_commands.specs.Commands.Sub.Reader.{read_all_words, read_line, read_code, read_lines, whole, read_request}
-use Rattle.sre_commands.proofs.LineLemmas.{line_is}
 use Rattle.py_base.specs.Reading.{◌and_then◌, is_next}
 use Rattle.sre_commands.specs.Error.{Read, malformed}
 use Rattle.sre_commands.specs.declared.error.ParseError.{ParseError}
@@ -100,6 +99,9 @@ pairs groups (suc n) bytes = if_holds (is_next 32 bytes)
 pub a_template : (groups : ℕ) (bytes : List ℕ) → Holds (λ t x. IsTemplate groups t × (bytes ≡ template_tokens t ++ x)) (read_template groups bytes)
 a_template groups bytes = then_holds (a_past (codes " ") bytes) λ _ x e. then_holds (a_text x) λ head y p. then_holds (pairs groups (suc (length y)) y) λ ps z q.
     ok (record { head = p.0; pairs = q.0 }, e ∙ ap (λ (l : List ℕ). 32 ∷ l) (p.1 ∙ ap (λ (l : List ℕ). token head ++ l) q.1 ∙ sym (append_assoc (token head) (pair_tokens ps) z)))
+
+pub line_is : (name value rest : List ℕ) → line name value ++ rest ≡ name ++ (value ++ 10 ∷ rest)
+line_is name value rest = append_assoc name (value ++ 10 ∷ []) rest ∙ ap (λ (l : List ℕ). name ++ l) (append_assoc value (10 ∷ []) rest)
 
 pub a_line : {A : Type 0} (P : A → Type 0) (spell : A → List ℕ) (name : List ℕ) (read : List ℕ → Read A) → ((b : List ℕ) → Holds (λ a x. P a × (b ≡ spell a ++ x)) (read b)) → (bytes : List ℕ) → Holds (λ a x. P a × (bytes ≡ line name (spell a) ++ x)) (read_line name read bytes)
 a_line {A} P spell name read h bytes = then_holds (a_past name bytes) λ _ x e. then_holds (h x) λ a y p. then_holds (a_past (codes "\n") y) λ _ z f.
