@@ -71,7 +71,7 @@ pub words : (n : ℕ) (bytes : List ℕ) → Holds (λ ws x. All (λ w. w < 2 ^ 
 words zero bytes = bad
 words (suc n) bytes = if_holds (is_next 32 bytes)
     (λ s. then_holds (a_word (drop 1 bytes)) λ w x p. then_holds (words n x) λ ws y q.
-        ok (All-cons (λ w. w < 2 ^ 32) w ws p.0 q.0, next_is 32 bytes s ∙ ap (λ (l : List ℕ). 32 ∷ l) (p.1 ∙ ap (λ (l : List ℕ). decimal w ++ l) q.1 ∙ sym (append_assoc (decimal w) (numbers ws) y))))
+    ok (All-cons (λ w. w < 2 ^ 32) w ws p.0 q.0, next_is 32 bytes s ∙ ap (λ (l : List ℕ). 32 ∷ l) (p.1 ∙ ap (λ (l : List ℕ). decimal w ++ l) q.1 ∙ sym (append_assoc (decimal w) (numbers ws) y))))
     (λ _. ok (All-nil (λ w. w < 2 ^ 32), refl))
 
 pub a_group : (groups : ℕ) (bytes : List ℕ) → Holds (λ g x. (g ≤ groups) × (bytes ≡ group_token g ++ x)) (read_group groups bytes)
@@ -93,7 +93,7 @@ pub pairs : (groups n : ℕ) (bytes : List ℕ) → Holds (λ ps x. ArePairs gro
 pairs groups zero bytes = bad
 pairs groups (suc n) bytes = if_holds (is_next 32 bytes)
     (λ s. then_holds (a_pair groups (drop 1 bytes)) λ p x h. then_holds (pairs groups n x) λ ps y q.
-        ok (All-cons (Is groups) p ps h.0 q.0, next_is 32 bytes s ∙ ap (λ (l : List ℕ). 32 ∷ l) (h.1 ∙ ap (λ (l : List ℕ). tokens p ++ l) q.1 ∙ sym (append_assoc (tokens p) (pair_tokens ps) y))))
+    ok (All-cons (Is groups) p ps h.0 q.0, next_is 32 bytes s ∙ ap (λ (l : List ℕ). 32 ∷ l) (h.1 ∙ ap (λ (l : List ℕ). tokens p ++ l) q.1 ∙ sym (append_assoc (tokens p) (pair_tokens ps) y))))
     (λ _. ok (All-nil (Is groups), refl))
 
 pub a_template : (groups : ℕ) (bytes : List ℕ) → Holds (λ t x. IsTemplate groups t × (bytes ≡ template_tokens t ++ x)) (read_template groups bytes)
@@ -130,8 +130,10 @@ a_code bytes =
     then_holds (a_line (λ text. all_scalars text ≡ true) token (codes "pattern ") read_text a_text bytes) λ pattern x p.
     then_holds (a_line (λ ws. All (λ w. w < 2 ^ 32) ws) numbers (codes "code") read_all_words (λ part. words (suc (length part)) part) x) λ ws y q.
     then_holds (a_line (λ n. n < 2 ^ 64) decimal (codes "groups ") read_number a_number y) λ groups z h.
-    ok (record { pattern = p.0; words = q.0; groups = h.0 },
-        p.1 ∙ ap (λ (l : List ℕ). line (codes "pattern ") (token pattern) ++ l) (q.1 ∙ ap (λ (l : List ℕ). line (codes "code") (numbers ws) ++ l) h.1))
+    ok (
+      record { pattern = p.0; words = q.0; groups = h.0 },
+      p.1 ∙ ap (λ (l : List ℕ). line (codes "pattern ") (token pattern) ++ l) (q.1 ∙ ap (λ (l : List ℕ). line (codes "code") (numbers ws) ++ l) h.1),
+    )
 
 pub lines : (bytes : List ℕ) → Holds (λ r x. IsRequest r × (bytes ≡ text_before r x)) (read_lines bytes)
 lines bytes =
@@ -139,8 +141,10 @@ lines bytes =
     then_holds (a_line (λ n. n < 2 ^ 64) decimal (codes "limit ") read_number a_number x) λ limit y p.
     then_holds (a_line (IsTemplate code.groups) template_tokens (codes "list") (read_template code.groups) (a_template code.groups) y) λ template z q.
     then_holds (a_line (λ text. all_scalars text ≡ true) token (codes "subject ") read_text a_text z) λ subject w h.
-    ok (record { pattern = c.0.pattern; words = c.0.words; groups = c.0.groups; limit = p.0; template = q.0; subject = h.0 },
-        c.1 ∙ ap (code_before code) (p.1 ∙ ap (λ (l : List ℕ). line (codes "limit ") (decimal limit) ++ l) (q.1 ∙ ap (λ (l : List ℕ). line (codes "list") (template_tokens template) ++ l) h.1)))
+    ok (
+      record { pattern = c.0.pattern; words = c.0.words; groups = c.0.groups; limit = p.0; template = q.0; subject = h.0 },
+      c.1 ∙ ap (code_before code) (p.1 ∙ ap (λ (l : List ℕ). line (codes "limit ") (decimal limit) ++ l) (q.1 ∙ ap (λ (l : List ℕ). line (codes "list") (template_tokens template) ++ l) h.1)),
+    )
 
 pub ended : (r : Request) → text_before r [] ≡ text_of r
 ended r = ap (λ (l : List ℕ).

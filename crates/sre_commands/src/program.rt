@@ -43,15 +43,12 @@ fn is_sub(arguments: &[String]) -> bool
 
 // The request that the source holds.
 fn read_request<S: Source>(alloc: Global, source: &mut S) -> Result<Substitution, Ending>
-    ensures read {
-        IfOk result (λ asked. ReadWhole
-            (reading_of S.left S.faults source.old source.new) (text_of (request_of asked))) }
+    ensures read { IfOk result (λ asked. ReadWhole
+        (reading_of S.left S.faults source.old source.new) (text_of (request_of asked))) }
     ensures request { IfOk result (λ asked. IsRequest (request_of asked)) }
-    ensures within {
-        OnOk result (TookAtMost MOST_BYTES (reading_of S.left S.faults source.old source.new)) }
-    ensures error {
-        IfErr result (λ ending. EndsReading ending MOST_BYTES
-            (reading_of S.left S.faults source.old source.new)) }
+    ensures within { OnOk result (TookAtMost MOST_BYTES (reading_of S.left S.faults source.old source.new)) }
+    ensures error { IfErr result (λ ending. EndsReading ending MOST_BYTES
+        (reading_of S.left S.faults source.old source.new)) }
 {
     let bytes = match read_all(alloc, source) {
         Ok(bytes) => bytes,
@@ -92,14 +89,11 @@ fn reply_to<L: Ledger>(
 // Writes the line, and answers the ending, or that the sink failed.
 fn written<K: Sink>(sink: &mut K, line: &String, ending: Ending) -> Ending
     ensures ends { (result ≡ ending) ⊎ (result ≡ Ending.SinkFailed) }
-    ensures all {
-        result ≢ Ending.SinkFailed → Wrote
-            (writing_of K.contents K.faults sink.old sink.new) (string_bytes line.now) }
-    ensures less {
-        result ≢ ending → WroteLess
-            (writing_of K.contents K.faults sink.old sink.new) (string_bytes line.now) }
-    ensures failed {
-        result ≢ ending → WriteFailed (writing_of K.contents K.faults sink.old sink.new) }
+    ensures all { result ≢ Ending.SinkFailed → Wrote
+        (writing_of K.contents K.faults sink.old sink.new) (string_bytes line.now) }
+    ensures less { result ≢ ending → WroteLess
+        (writing_of K.contents K.faults sink.old sink.new) (string_bytes line.now) }
+    ensures failed { result ≢ ending → WriteFailed (writing_of K.contents K.faults sink.old sink.new) }
 {
     match write_all(sink, line.as_bytes()) {
         Ok(()) => ending,
@@ -115,10 +109,9 @@ fn act<S: Source, K: Sink, L: Ledger>(
     sink: &mut K,
     steps: &mut Steps<L>,
 ) -> Ending
-    ensures ends {
-        Ends result (map string_bytes arguments.now) MOST_BYTES
-            (reading_of S.left S.faults source.old source.new)
-            (writing_of K.contents K.faults sink.old sink.new) }
+    ensures ends { Ends result (map string_bytes arguments.now) MOST_BYTES
+        (reading_of S.left S.faults source.old source.new)
+        (writing_of K.contents K.faults sink.old sink.new) }
     ensures unread { result ≡ Ending.NoCommand → source.new ≡ source.old }
     ensures unwritten { writes result ≡ false → sink.new ≡ sink.old }
 {
@@ -146,70 +139,57 @@ pub fn run<S: Source, K: Sink, L: Ledger>(
     steps: &mut Steps<L>,
 ) -> u8
     // The source was read to its end as one request, and its answer was written.
-    ensures answered {
-        result ≡ status_of Ending.Answered → IsAnswered
-            (reading_of S.left S.faults source.old source.new)
-            (writing_of K.contents K.faults sink.old sink.new) }
+    ensures answered { result ≡ status_of Ending.Answered → IsAnswered
+        (reading_of S.left S.faults source.old source.new)
+        (writing_of K.contents K.faults sink.old sink.new) }
 
     // Every other status, and its cause.
     ensures known { IsStatus result }
-    ensures faulted {
-        result ≡ status_of Ending.Faulted → IsFaulted
-            (reading_of S.left S.faults source.old source.new)
-            (writing_of K.contents K.faults sink.old sink.new) }
-    ensures no_command {
-        (result ≡ status_of Ending.NoCommand) ↔ (IsSub (map string_bytes arguments.now) → ⊥) }
-    ensures malformed {
-        result ≡ status_of Ending.NoRequest → IsMalformed
-            (reading_of S.left S.faults source.old source.new) }
-    ensures source_failed {
-        result ≡ status_of Ending.SourceFailed → ReadFailed
-            (reading_of S.left S.faults source.old source.new) }
-    ensures cut_short {
-        result ≡ status_of Ending.SinkFailed → IsCutShort
-            (reading_of S.left S.faults source.old source.new)
-            (writing_of K.contents K.faults sink.old sink.new) }
-    ensures too_long {
-        result ≡ status_of Ending.TooLong → TookMoreThan MOST_BYTES
-            (reading_of S.left S.faults source.old source.new) }
-    ensures within {
-        result ≢ status_of Ending.TooLong → TookAtMost MOST_BYTES
-            (reading_of S.left S.faults source.old source.new) }
+    ensures faulted { result ≡ status_of Ending.Faulted → IsFaulted
+        (reading_of S.left S.faults source.old source.new)
+        (writing_of K.contents K.faults sink.old sink.new) }
+    ensures no_command { (result ≡ status_of Ending.NoCommand) ↔ (IsSub (map string_bytes arguments.now) → ⊥) }
+    ensures malformed { result ≡ status_of Ending.NoRequest → IsMalformed
+        (reading_of S.left S.faults source.old source.new) }
+    ensures source_failed { result ≡ status_of Ending.SourceFailed → ReadFailed
+        (reading_of S.left S.faults source.old source.new) }
+    ensures cut_short { result ≡ status_of Ending.SinkFailed → IsCutShort
+        (reading_of S.left S.faults source.old source.new)
+        (writing_of K.contents K.faults sink.old sink.new) }
+    ensures too_long { result ≡ status_of Ending.TooLong → TookMoreThan MOST_BYTES
+        (reading_of S.left S.faults source.old source.new) }
+    ensures within { result ≢ status_of Ending.TooLong → TookAtMost MOST_BYTES
+        (reading_of S.left S.faults source.old source.new) }
 
     // What is left as it was.
     ensures unread { result ≡ status_of Ending.NoCommand → source.new ≡ source.old }
-    ensures unwritten {
-        result ≢ status_of Ending.Answered → result ≢ status_of Ending.Faulted
-            → result ≢ status_of Ending.SinkFailed → sink.new ≡ sink.old }
+    ensures unwritten { result ≢ status_of Ending.Answered → result ≢ status_of Ending.Faulted
+        → result ≢ status_of Ending.SinkFailed → sink.new ≡ sink.old }
 
     // What a source that tells its bytes brings about, where no stream fails: its answer, the line
-    // that says that its code words spell no tree, or the status of bytes that are no request or too
-    // many. Only memory may run out first.
-    ensures good_request {
-        (r : Request) (t : PlainTree) → IsRequest r → Spells r.words r.groups t
-            → Asks (map string_bytes arguments.now) (S.left source.old) (text_of r)
-            → length (text_of r) ≤ MOST_BYTES
-            → ¬ ReadFailed (reading_of S.left S.faults source.old source.new)
-            → ¬ WriteFailed (writing_of K.contents K.faults sink.old sink.new)
-            → IsEither result Ending.Answered Ending.NoMemory }
-    ensures invalid_code {
-        (r : Request) → IsRequest r → HasInvalidCode r
-            → Asks (map string_bytes arguments.now) (S.left source.old) (text_of r)
-            → length (text_of r) ≤ MOST_BYTES
-            → ¬ ReadFailed (reading_of S.left S.faults source.old source.new)
-            → ¬ WriteFailed (writing_of K.contents K.faults sink.old sink.new)
-            → IsEither result Ending.Faulted Ending.NoMemory }
-    ensures no_request {
-        (bytes : List ℕ) → IsNoRequest bytes
-            → Asks (map string_bytes arguments.now) (S.left source.old) bytes
-            → length bytes ≤ MOST_BYTES
-            → ¬ ReadFailed (reading_of S.left S.faults source.old source.new)
-            → IsEither result Ending.NoRequest Ending.NoMemory }
-    ensures too_many {
-        (bytes : List ℕ) → Asks (map string_bytes arguments.now) (S.left source.old) bytes
-            → MOST_BYTES < length bytes
-            → ¬ ReadFailed (reading_of S.left S.faults source.old source.new)
-            → IsEither result Ending.TooLong Ending.NoMemory }
+    // that says that its code words spell no tree, or the status of bytes that are no request or
+    // too many. Only memory may run out first.
+    ensures good_request { (r : Request) (t : PlainTree) → IsRequest r → Spells r.words r.groups t
+        → Asks (map string_bytes arguments.now) (S.left source.old) (text_of r)
+        → length (text_of r) ≤ MOST_BYTES
+        → ¬ ReadFailed (reading_of S.left S.faults source.old source.new)
+        → ¬ WriteFailed (writing_of K.contents K.faults sink.old sink.new)
+        → IsEither result Ending.Answered Ending.NoMemory }
+    ensures invalid_code { (r : Request) → IsRequest r → HasInvalidCode r
+        → Asks (map string_bytes arguments.now) (S.left source.old) (text_of r)
+        → length (text_of r) ≤ MOST_BYTES
+        → ¬ ReadFailed (reading_of S.left S.faults source.old source.new)
+        → ¬ WriteFailed (writing_of K.contents K.faults sink.old sink.new)
+        → IsEither result Ending.Faulted Ending.NoMemory }
+    ensures no_request { (bytes : List ℕ) → IsNoRequest bytes
+        → Asks (map string_bytes arguments.now) (S.left source.old) bytes
+        → length bytes ≤ MOST_BYTES
+        → ¬ ReadFailed (reading_of S.left S.faults source.old source.new)
+        → IsEither result Ending.NoRequest Ending.NoMemory }
+    ensures too_many { (bytes : List ℕ) → Asks (map string_bytes arguments.now) (S.left source.old) bytes
+        → MOST_BYTES < length bytes
+        → ¬ ReadFailed (reading_of S.left S.faults source.old source.new)
+        → IsEither result Ending.TooLong Ending.NoMemory }
 {
     status_of(act(alloc, arguments, source, sink, steps))
 }

@@ -42,18 +42,14 @@ impl From<py_base::Failed> for InputError {
 
 /// All bytes of the source, which are at most `MOST_BYTES`.
 pub fn read_all<S: Source>(alloc: Global, source: &mut S) -> Result<Vec<u8>, InputError>
-    ensures all {
-        IfOk result (λ bytes. ReadWhole
-            (reading_of S.left S.faults source.old source.new) bytes.items) }
-    ensures within {
-        result ≢ Err InputError.TooLong → TookAtMost MOST_BYTES
-            (reading_of S.left S.faults source.old source.new) }
-    ensures failed {
-        result ≡ Err InputError.Failed → ReadFailed
-            (reading_of S.left S.faults source.old source.new) }
-    ensures too_long {
-        result ≡ Err InputError.TooLong → TookMoreThan MOST_BYTES
-            (reading_of S.left S.faults source.old source.new) }
+    ensures all { IfOk result (λ bytes. ReadWhole
+        (reading_of S.left S.faults source.old source.new) bytes.items) }
+    ensures within { result ≢ Err InputError.TooLong → TookAtMost MOST_BYTES
+        (reading_of S.left S.faults source.old source.new) }
+    ensures failed { result ≡ Err InputError.Failed → ReadFailed
+        (reading_of S.left S.faults source.old source.new) }
+    ensures too_long { result ≡ Err InputError.TooLong → TookMoreThan MOST_BYTES
+        (reading_of S.left S.faults source.old source.new) }
 {
     let mut bytes = Vec::new(alloc);
     let mut buffer = [0u8; BUFFER_BYTES];
@@ -71,12 +67,9 @@ pub fn read_all<S: Source>(alloc: Global, source: &mut S) -> Result<Vec<u8>, Inp
 
 /// Writes all of the bytes.
 pub fn write_all<K: Sink>(sink: &mut K, bytes: &[u8]) -> Result<(), py_base::Failed>
-    ensures all {
-        OnOk result (Wrote (writing_of K.contents K.faults sink.old sink.new) bytes.now) }
-    ensures less {
-        OnErr result (WroteLess (writing_of K.contents K.faults sink.old sink.new) bytes.now) }
-    ensures failed {
-        OnErr result (WriteFailed (writing_of K.contents K.faults sink.old sink.new)) }
+    ensures all { OnOk result (Wrote (writing_of K.contents K.faults sink.old sink.new) bytes.now) }
+    ensures less { OnErr result (WroteLess (writing_of K.contents K.faults sink.old sink.new) bytes.now) }
+    ensures failed { OnErr result (WriteFailed (writing_of K.contents K.faults sink.old sink.new)) }
 {
     let mut written = 0;
     while written < bytes.len() {

@@ -4,6 +4,5 @@
 mod command_line;
 mod streams;
 
-
 pub use command_line::arguments;
 pub use streams::{StdSink, StdSource};

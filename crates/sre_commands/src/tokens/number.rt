@@ -26,7 +26,8 @@ fn number_of(bytes: &[u8]) -> Option<u64>
 
 // Whether these bytes are `0`, or begin with another digit.
 fn begins_as_decimal(bytes: &[u8]) -> bool
-    ensures { IsTrue result ↔ ((bytes.now ≡ 48 ∷ []) ⊎ ((48 < slice_index bytes.now 0) × (slice_index bytes.now 0 ≤ 57))) }
+    ensures { let first = slice_index bytes.now 0 in
+        IsTrue result ↔ ((bytes.now ≡ 48 ∷ []) ⊎ ((48 < first) × (first ≤ 57))) }
 {
     matches!(bytes, [b'0'] | [b'1'..=b'9', ..])
 }
@@ -60,9 +61,8 @@ fn read_word(bytes: &[u8]) -> Read<u32>
 }
 
 pub(crate) fn read_words(alloc: Global, bytes: &[u8]) -> Read<Vec<u32>>
-    ensures {
-        Meets (spec.read_words (suc (length bytes.now)) bytes.now)
-            (read_as (λ words. words.items) result) }
+    ensures { Meets (spec.read_words (suc (length bytes.now)) bytes.now)
+        (read_as (λ words. words.items) result) }
 {
     let mut words = Vec::new(alloc);
     let mut rest = bytes;

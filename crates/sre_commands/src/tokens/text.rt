@@ -18,7 +18,8 @@ use std::alloc::{AllocError, Global};
 fn bytes_of(alloc: Global, digits: &[u8]) -> Result<Vec<u8>, ParseError>
     ensures found { IfOk result (λ v. digits.now ≡ encode_lower v.items) }
     ensures bytes { IfOk result (λ v. IsBytes v.items) }
-    ensures malformed { result ≡ Err ParseError.Malformed → (bytes : List ℕ) → IsBytes bytes → digits.now ≡ encode_lower bytes → ⊥ }
+    ensures malformed { result ≡ Err ParseError.Malformed → (bytes : List ℕ) → IsBytes bytes
+        → digits.now ≡ encode_lower bytes → ⊥ }
 {
     if has_upper_case(digits) {
         return Err(ParseError::Malformed);
@@ -37,7 +38,8 @@ fn has_upper_case(bytes: &[u8]) -> bool
 fn text_in(alloc: Global, bytes: &[u8]) -> Result<Vec<u32>, ParseError>
     ensures found { IfOk result (λ v. bytes.now ≡ token v.items) }
     ensures scalars { IfOk result (λ v. all_scalars v.items ≡ true) }
-    ensures malformed { result ≡ Err ParseError.Malformed → (text : List ℕ) → all_scalars text ≡ true → bytes.now ≡ token text → ⊥ }
+    ensures malformed { result ≡ Err ParseError.Malformed → (text : List ℕ) → all_scalars text ≡ true
+        → bytes.now ≡ token text → ⊥ }
 {
     let Some(digits) = bytes.strip_prefix(b"t") else {
         return Err(ParseError::Malformed);

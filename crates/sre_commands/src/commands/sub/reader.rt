@@ -19,9 +19,8 @@ use crate::tokens::text::read_text;
 use std::alloc::Global;
 
 fn read_text_line<'b>(alloc: Global, bytes: &'b [u8], name: &[u8]) -> Read<'b, Vec<u32>>
-    ensures {
-        Meets (spec.read_line name.now texts.read_text bytes.now)
-            (read_as (λ text. text.items) result) }
+    ensures { Meets (spec.read_line name.now texts.read_text bytes.now)
+        (read_as (λ text. text.items) result) }
 {
     let (_, rest) = read_past(bytes, name)?;
     let (text, rest) = read_text(alloc, rest)?;
@@ -39,9 +38,8 @@ fn read_number_line<'b>(bytes: &'b [u8], name: &[u8]) -> Read<'b, usize>
 }
 
 fn read_words_line(alloc: Global, bytes: &[u8]) -> Read<Vec<u32>>
-    ensures {
-        Meets (spec.read_line (codes "code") spec.read_all_words bytes.now)
-            (read_as (λ words. words.items) result) }
+    ensures { Meets (spec.read_line (codes "code") spec.read_all_words bytes.now)
+        (read_as (λ words. words.items) result) }
 {
     let (_, rest) = read_past(bytes, b"code")?;
     let (words, rest) = read_words(alloc, rest)?;
@@ -50,9 +48,8 @@ fn read_words_line(alloc: Global, bytes: &[u8]) -> Read<Vec<u32>>
 }
 
 fn read_template_line(alloc: Global, groups: usize, bytes: &[u8]) -> Read<Template>
-    ensures {
-        Meets (spec.read_line (codes "list") (templates.read_template groups) bytes.now)
-            (read_as replacement_of result) }
+    ensures { Meets (spec.read_line (codes "list") (templates.read_template groups) bytes.now)
+        (read_as replacement_of result) }
 {
     let (_, rest) = read_past(bytes, b"list")?;
     let (template, rest) = read_template(alloc, groups, rest)?;

@@ -8,8 +8,8 @@ use super::template::Template;
 use crate::error::ParseError;
 use std::alloc::Global;
 
-/// A code, the subject that is searched for it, and the template that is filled for each span. Texts are
-/// their code points.
+/// A code, the subject that is searched for it, and the template that is filled for each span.
+/// Texts are their code points.
 #[derive(Debug, Drop)]
 pub struct Substitution {
     pub pattern: Vec<u32>,
@@ -24,9 +24,8 @@ pub struct Substitution {
 pub fn parse(alloc: Global, bytes: &[u8]) -> Result<Substitution, ParseError>
     ensures spelled { IfOk result (λ a. bytes.now ≡ text_of (request_of a)) }
     ensures request { IfOk result (λ a. IsRequest (request_of a)) }
-    ensures malformed {
-        result ≡ Err ParseError.Malformed → (r : Request) → IsRequest r
-            → bytes.now ≡ text_of r → ⊥ }
+    ensures malformed { result ≡ Err ParseError.Malformed → (r : Request) → IsRequest r
+        → bytes.now ≡ text_of r → ⊥ }
 {
     read_request(alloc, bytes)
 }

@@ -19,8 +19,8 @@ pub struct Pair {
     pub literal: Vec<u32>,
 }
 
-/// A replacement template: a literal, and then pairs of a group and a literal. Literals are their code
-/// points.
+/// A replacement template: a literal, and then pairs of a group and a literal. Literals are their
+/// code points.
 #[derive(Debug, Drop)]
 pub struct Template {
     pub head: Vec<u32>,
@@ -37,9 +37,8 @@ fn read_pair(alloc: Global, groups: usize, bytes: &[u8]) -> Read<Pair>
 }
 
 fn read_pairs(alloc: Global, groups: usize, bytes: &[u8]) -> Read<Vec<Pair>>
-    ensures {
-        Meets (spec.read_pairs groups (suc (length bytes.now)) bytes.now)
-            (read_as (λ pairs. map pair_of pairs.items) result) }
+    ensures { Meets (spec.read_pairs groups (suc (length bytes.now)) bytes.now)
+        (read_as (λ pairs. map pair_of pairs.items) result) }
 {
     let mut pairs = Vec::new(alloc);
     let mut rest = bytes;
