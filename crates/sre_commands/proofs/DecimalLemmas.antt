@@ -6,7 +6,7 @@ use Rattle.std.specs.Str.Parse.{AllDigits, ParsesUnsigned, digits_value}
 use Rattle.std.proofs.lemmas.Fmt.{decimal_is_IsNumeral, decimal_digit, decimal_nonempty, first_decimal, parse-decimal, decimal-digits_value, decimal_injective}
 use Rattle.std.proofs.lemmas.List.Elements.{All-from_get_or}
 use Rattle.std.proofs.lemmas.Str.Parse.{IsNumeralModel, digit_at, numerals_by_value, parse_plain, tells_digits}
-use Rattle.sre_commands.specs.Tokens.Cuts.{Lacks}
+use Rattle.sre_commands.proofs.LacksLemmas.{Lacks}
 
 -- no byte below the digits stands in a decimal
 pub lacks_decimal : (byte n : ℕ) → byte < 48 → n < 2 ^ 64 → Lacks byte (decimal n)

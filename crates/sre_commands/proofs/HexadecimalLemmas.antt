@@ -8,7 +8,7 @@ use Rattle.std.proofs.lemmas.List.Elements.{All-nil, All-cons}
 use Rattle.hex.specs.Hex.{IsBytes, decode_of, decode_pairs, digit_or_error, encode_with, encode_lower, hex_digit_value, lower_digits, pair_value, value_at, ◌>>=◌}
 use Rattle.hex.specs.declared.error.FromHexError.{FromHexError}
 use Rattle.hex.proofs.HexLemmas.{decode_of-encode_lower, decode_of-even, decode_of-ok, decode_of-same}
-use Rattle.sre_commands.specs.Tokens.Cuts.{Lacks}
+use Rattle.sre_commands.proofs.LacksLemmas.{Lacks}
 
 -- ---- no byte of which the table has none stands in what it spells
 

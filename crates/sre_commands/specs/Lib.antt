@@ -1,3 +1,4 @@
+pub mod Error
 pub mod Tokens
 pub mod Commands
 pub mod Streams

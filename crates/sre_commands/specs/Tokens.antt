@@ -1,3 +1,3 @@
+pub mod Reader
 pub mod Number
 pub mod Text
-pub mod Cuts

@@ -1,6 +1,6 @@
 //! Laws of requests.
 
-ghost use Rattle.sre_commands.specs.Laws.{OneRequestForOneText, NoTextBeginsAnother};
+ghost use Rattle.sre_commands.specs.Laws.{OneRequestForOneText, NoTextBeginsAnother, ReadingIsTheText};
 
 /// Different requests have different texts.
 pub fn one_request_for_one_text()
@@ -10,4 +10,9 @@ pub fn one_request_for_one_text()
 /// No text of a request is a proper prefix of another.
 pub fn no_text_begins_another()
     ensures { NoTextBeginsAnother }
+{}
+
+/// The reader of the definitions gives a request exactly for its text.
+pub fn reading_is_the_text()
+    ensures { ReadingIsTheText }
 {}

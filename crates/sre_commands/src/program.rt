@@ -167,8 +167,8 @@ pub fn run<S: Source, K: Sink, L: Ledger>(
         → result ≢ status_of Ending.SinkFailed → sink.new ≡ sink.old }
 
     // What a source that tells its bytes brings about, where no stream fails: its answer, the line
-    // that says that its code words spell no tree, or the status of bytes that are no request or too
-    // many. Only memory may run out first.
+    // that says that its code words spell no tree, or the status of bytes that are no request or
+    // too many. Only memory may run out first.
     ensures good_request { (r : Request) (t : PlainTree) → IsRequest r → Spells r.words r.groups t
         → Asks (map string_bytes arguments.now) (S.left source.old) (text_of r)
         → length (text_of r) ≤ MOST_BYTES

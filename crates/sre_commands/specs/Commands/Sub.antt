@@ -1,4 +1,4 @@
 pub mod Template
 pub mod Request
-pub mod Lines
+pub mod Reader
 pub mod Answer

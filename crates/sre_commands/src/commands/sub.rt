@@ -2,6 +2,6 @@
 
 pub mod answer;
 mod filling;
-mod lines;
+mod reader;
 pub mod request;
 pub mod template;

@@ -1,15 +1,17 @@
-//! Numbers, each read from exactly its own bytes.
+//! Numbers in a request, and how they are read.
 
-ghost use Rattle.std.specs.Prelude.{◌≡◌, ℕ, ◌^◌, ◌<◌, ◌≤◌, slice_index, List, [], ◌∷◌, ◌++◌, All, IfOk, IfSome, IfNone, IsTrue, ◌↔◌, ◌⊎◌};
+ghost use Rattle.std.specs.Prelude.{◌≡◌, ℕ, ◌^◌, ◌<◌, ◌≤◌, slice_index, suc, length, List, [], ◌∷◌, IfSome, IfNone, IsTrue, ◌↔◌, ◌⊎◌};
 ghost use Rattle.std.specs.Fmt.{decimal};
-ghost use Rattle.sre_commands.specs.Tokens.Number.{numbers};
-ghost use Rattle.sre_commands.specs.Tokens.Cuts.{Lacks, StopsAt};
+ghost use Rattle.py_base.specs.Reading.{read_of, read_as};
+ghost use Rattle.sre_commands.specs.Error.{Meets};
+ghost use Rattle.sre_commands.specs.Tokens.Number as spec;
 
 use crate::error::ParseError;
+use crate::tokens::reader::{Read, after_next, is_next, read_past, read_token};
 use std::alloc::Global;
 
-/// The number below 2 ^ 64 whose decimal these bytes are.
-pub fn number_of(bytes: &[u8]) -> Option<u64>
+// The number below 2 ^ 64 whose decimal these bytes are.
+fn number_of(bytes: &[u8]) -> Option<u64>
     ensures found { IfSome result (λ n. bytes.now ≡ decimal n) }
     ensures none { IfNone result ((n : ℕ) → n < 2 ^ 64 → bytes.now ≡ decimal n → ⊥) }
 {
@@ -24,7 +26,8 @@ pub fn number_of(bytes: &[u8]) -> Option<u64>
 
 // Whether these bytes are `0`, or begin with another digit.
 fn begins_as_decimal(bytes: &[u8]) -> bool
-    ensures { IsTrue result ↔ ((bytes.now ≡ 48 ∷ []) ⊎ ((48 < slice_index bytes.now 0) × (slice_index bytes.now 0 ≤ 57))) }
+    ensures { let first = slice_index bytes.now 0 in
+        IsTrue result ↔ ((bytes.now ≡ 48 ∷ []) ⊎ ((48 < first) × (first ≤ 57))) }
 {
     matches!(bytes, [b'0'] | [b'1'..=b'9', ..])
 }
@@ -37,34 +40,49 @@ fn word_of(bytes: &[u8]) -> Option<u32>
     u32::try_from(number_of(bytes)?).ok()
 }
 
-/// What is before the first space, and the bytes from that space on.
-pub fn split_at_space(bytes: &[u8]) -> (&[u8], &[u8])
-    ensures all { bytes.now ≡ result.0.now ++ result.1.now }
-    ensures first { Lacks 32 result.0.now }
-    ensures rest { StopsAt 32 result.1.now }
+pub(crate) fn read_number(bytes: &[u8]) -> Read<u64>
+    ensures { Meets (spec.read_number bytes.now) (read_of result) }
 {
-    let end = bytes.iter().position(|byte| *byte == b' ');
-    bytes.split_at(end.unwrap_or(bytes.len()))
+    let (token, rest) = read_token(bytes);
+    match number_of(token) {
+        Some(number) => Ok((number, rest)),
+        None => Err(ParseError::Malformed),
+    }
 }
 
-/// The numbers below 2 ^ 32 that these bytes spell, a space before each.
-pub fn numbers_of(alloc: Global, bytes: &[u8]) -> Result<Vec<u32>, ParseError>
-    ensures found { IfOk result (λ v. bytes.now ≡ numbers v.items) }
-    ensures small { IfOk result (λ v. All (λ w. w < 2 ^ 32) v.items) }
-    ensures malformed { result ≡ Err ParseError.Malformed → (words : List ℕ) → All (λ w. w < 2 ^ 32) words → bytes.now ≡ numbers words → ⊥ }
+fn read_word(bytes: &[u8]) -> Read<u32>
+    ensures { Meets (spec.read_word bytes.now) (read_of result) }
 {
-    let mut found = Vec::new(alloc);
-    let mut left = bytes;
-    while let Some(rest) = left.strip_prefix(b" ") {
-        let (word, after) = split_at_space(rest);
-        let Some(number) = word_of(word) else {
-            return Err(ParseError::Malformed);
-        };
-        found.push(number)?;
-        left = after;
+    let (token, rest) = read_token(bytes);
+    match word_of(token) {
+        Some(word) => Ok((word, rest)),
+        None => Err(ParseError::Malformed),
     }
-    if !left.is_empty() {
+}
+
+pub(crate) fn read_words(alloc: Global, bytes: &[u8]) -> Read<Vec<u32>>
+    ensures { Meets (spec.read_words (suc (length bytes.now)) bytes.now)
+        (read_as (λ words. words.items) result) }
+{
+    let mut words = Vec::new(alloc);
+    let mut rest = bytes;
+    while is_next(b' ', rest) {
+        let (word, after) = read_word(after_next(rest))?;
+        words.push(word)?;
+        rest = after;
+    }
+    Ok((words, rest))
+}
+
+// The number of a group of so many, or 0.
+pub(crate) fn read_group(groups: usize, bytes: &[u8]) -> Read<usize>
+    ensures { Meets (spec.read_group groups bytes.now) (read_of result) }
+{
+    let (_, rest) = read_past(bytes, b"i")?;
+    let (number, rest) = read_number(rest)?;
+    let number = number as usize;
+    if number > groups {
         return Err(ParseError::Malformed);
     }
-    Ok(found)
+    Ok((number, rest))
 }

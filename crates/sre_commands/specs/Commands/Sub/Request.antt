@@ -6,6 +6,7 @@ use Rattle.sre_match.specs.Filling.{Replacement}
 use Rattle.sre_commands.specs.Tokens.Number.{numbers}
 use Rattle.sre_commands.specs.Tokens.Text.{token}
 use Rattle.sre_commands.specs.Commands.Sub.Template.{IsTemplate, template_tokens, replacement_of}
+use Rattle.sre_commands.specs.declared.commands.sub.reader.Code.{Code}
 use Rattle.sre_commands.specs.declared.commands.sub.request.Substitution.{Substitution}
 
 -- a pattern, the code words that it was compiled to, how many groups it has, how many spans are replaced at most (0 is no limit), the template that is filled for each, and the subject; texts are lists of code points
@@ -50,3 +51,12 @@ request_of a = record {
   template = replacement_of a.template;
   subject = a.subject.items;
 }
+
+-- the lines of the code: the pattern, the code words, and how many groups it has
+pub record PlainCode : Type 0 where
+  pub pattern : List ℕ
+  pub words : List ℕ
+  pub groups : ℕ
+
+abbrev pub code_of : Code → PlainCode
+code_of c = record { pattern = c.pattern.items; words = c.words.items; groups = c.groups }

@@ -1,10 +1,13 @@
 -- Replacement templates, and their tokens.
-use Rattle.std.specs.Prelude.{◌≡◌, ℕ, ◌≤◌, List, ◌++◌, All, codes, map, true}
+use Rattle.std.specs.Prelude.{◌≡◌, ℕ, zero, suc, ◌≤◌, if◌then◌else◌, List, [], ◌∷◌, ◌++◌, All, codes, drop, length, map, true, Ok}
 use Rattle.std.specs.List.{flat_map}
 use Rattle.std.specs.Str.{all_scalars}
 use Rattle.sre_match.specs.Filling.{Replacement}
-use Rattle.sre_commands.specs.Tokens.Number.{group_token}
-use Rattle.sre_commands.specs.Tokens.Text.{token}
+use Rattle.py_base.specs.Reading.{◌and_then◌, is_next}
+use Rattle.sre_commands.specs.Error.{Read, malformed}
+use Rattle.sre_commands.specs.Tokens.Number.{group_token, read_group}
+use Rattle.sre_commands.specs.Tokens.Reader.{read_past}
+use Rattle.sre_commands.specs.Tokens.Text.{token, read_text}
 use Rattle.sre_commands.specs.declared.commands.sub.template.Pair.{Pair}
 use Rattle.sre_commands.specs.declared.commands.sub.template.Template.{Template}
 
@@ -31,3 +34,25 @@ pair_of p = (p.group, p.literal.items)
 
 abbrev pub replacement_of : Template → Replacement
 replacement_of t = record { head = t.head.items; pairs = map pair_of t.pairs.items }
+
+-- a pair: the number of a group or 0, a space, and a literal
+abbrev pub read_pair : ℕ → List ℕ → Read (ℕ × List ℕ)
+read_pair groups bytes =
+    read_group groups bytes and_then λ group rest.
+    read_past (codes " ") rest and_then λ _ rest.
+    read_text rest and_then λ literal rest.
+    Ok ((group, literal), rest)
+
+-- pairs with a space before each, as many as there are: so many spaces at most
+abbrev pub read_pairs : ℕ → ℕ → List ℕ → Read (List (ℕ × List ℕ))
+read_pairs groups zero bytes = malformed
+read_pairs groups (suc n) bytes =
+    if is_next 32 bytes then (read_pair groups (drop 1 bytes) and_then λ pair rest. read_pairs groups n rest and_then λ pairs end. Ok (pair ∷ pairs, end))
+    else Ok ([], bytes)
+
+abbrev pub read_template : ℕ → List ℕ → Read Replacement
+read_template groups bytes =
+    read_past (codes " ") bytes and_then λ _ rest.
+    read_text rest and_then λ head rest.
+    read_pairs groups (suc (length rest)) rest and_then λ pairs rest.
+    Ok (record { head = head; pairs = pairs }, rest)

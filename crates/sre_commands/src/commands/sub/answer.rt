@@ -32,8 +32,13 @@ fn has_next<'c, S: StrDrive, L: Ledger>(
     steps: &mut Steps<L>,
 ) -> Result<bool, MatchError>
     requires { S.counts L.name }
-    ensures found { IfOk result (λ found. if_found found walk.new.span ≡ up_to limit count (next_span walk.old.search.tree walk.old.search.subject walk.old.standing.place walk.old.standing.advance false)) }
-    ensures moved { OnOk result (walk.new.standing ≡ stands_behind (up_to limit count (next_span walk.old.search.tree walk.old.search.subject walk.old.standing.place walk.old.standing.advance false)) walk.old.standing) }
+    ensures found { let next = next_span walk.old.search.tree walk.old.search.subject
+        walk.old.standing.place walk.old.standing.advance false in
+        IfOk result (λ found. if_found found walk.new.span ≡ up_to limit count next) }
+    ensures moved { let next = next_span walk.old.search.tree walk.old.search.subject
+        walk.old.standing.place walk.old.standing.advance false in
+        OnOk result
+        (walk.new.standing ≡ stands_behind (up_to limit count next) walk.old.standing) }
     ensures search { walk.new.search ≡ walk.old.search }
 {
     if is_reached(limit, count) {
@@ -49,8 +54,11 @@ fn replaced<L: Ledger>(
     code: &Checked,
     steps: &mut Steps<L>,
 ) -> Result<(Vec<u32>, usize), MatchError>
-    ensures units { IfOk result (λ x. x.0.items ≡ result_of asked.now.subject.items (spans_of_request (request_of asked.now) code.now.tree) (replacement_of asked.now.template)) }
-    ensures count { IfOk result (λ x. x.1 ≡ length (spans_of_request (request_of asked.now) code.now.tree)) }
+    ensures units { let spans = spans_of_request (request_of asked.now) code.now.tree in
+        IfOk result (λ x. x.0.items
+        ≡ result_of asked.now.subject.items spans (replacement_of asked.now.template)) }
+    ensures count { let spans = spans_of_request (request_of asked.now) code.now.tree in
+        IfOk result (λ x. x.1 ≡ length spans) }
 {
     let subject = asked.subject.as_slice();
     let request = Request::new(PlaceView::new(subject), 0, subject.len(), code, false);
@@ -91,7 +99,8 @@ pub fn answer<L: Ledger>(
     steps: &mut Steps<L>,
 ) -> Result<String, MatchError>
     requires { IsRequest (request_of asked.now) }
-    ensures { IfOk result (λ line. string_bytes line ≡ answer_of (request_of asked.now) code.now.tree) }
+    ensures { IfOk result (λ line.
+        string_bytes line ≡ answer_of (request_of asked.now) code.now.tree) }
 {
     let (units, count) = replaced(alloc, asked, code, steps)?;
     let text = string_of(alloc, &units)?;

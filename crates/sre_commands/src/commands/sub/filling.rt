@@ -15,7 +15,8 @@ pub fn fill(
     subject: &[u32],
     state: &State,
 ) -> Result<(), AllocError>
-    ensures { OnOk result (units.new.items ≡ units.old.items ++ fill (replacement_of template.now) subject.now state.now) }
+    ensures { let filled = fill (replacement_of template.now) subject.now state.now in
+        OnOk result (units.new.items ≡ units.old.items ++ filled) }
 {
     units.extend_from_slice(&template.head)?;
     for pair in &template.pairs {

@@ -1,16 +1,15 @@
-//! Replacement templates, and how they are read from bytes.
+//! Replacement templates, and how they are read.
 
-ghost use Rattle.std.specs.Prelude.{◌≡◌, ◌≢◌, ℕ, ◌≤◌, List, ◌∷◌, true, map, IfOk, IfSome, IfNone};
-ghost use Rattle.std.specs.Str.{all_scalars};
-ghost use Rattle.sre_match.specs.Filling.{Replacement};
-ghost use Rattle.sre_commands.specs.Commands.Sub.Template.{IsTemplate, template_tokens, ArePairs, pair_tokens, pair_of, replacement_of};
-ghost use Rattle.sre_commands.specs.Tokens.Text.{token};
-ghost use Rattle.sre_commands.specs.Tokens.Number.{group_token};
-ghost use Rattle.sre_commands.specs.Tokens.Cuts.{IsTokenCut};
+ghost use Rattle.std.specs.Prelude.{◌≡◌, suc, length, map};
+ghost use Rattle.py_base.specs.Reading.{read_as};
+ghost use Rattle.sre_commands.specs.Error.{Meets};
+ghost use Rattle.sre_commands.specs.Commands.Sub.Template as spec;
+ghost use Rattle.sre_commands.specs.Commands.Sub.Template.{pair_of, replacement_of};
 
 use crate::error::ParseError;
-use crate::tokens::number::{number_of, split_at_space};
-use crate::tokens::text::text_in;
+use crate::tokens::number::read_group;
+use crate::tokens::reader::{Read, after_next, is_next, read_past};
+use crate::tokens::text::read_text;
 use std::alloc::Global;
 
 /// The number of a group, or 0 for the whole span, and the literal after it.
@@ -20,82 +19,43 @@ pub struct Pair {
     pub literal: Vec<u32>,
 }
 
-/// A replacement template: a literal, and then pairs of a group and a literal. Literals are their code
-/// points.
+/// A replacement template: a literal, and then pairs of a group and a literal. Literals are their
+/// code points.
 #[derive(Debug, Drop)]
 pub struct Template {
     pub head: Vec<u32>,
     pub pairs: Vec<Pair>,
 }
 
-/// The template that these bytes spell, a space before each token, for a pattern with so many groups.
-pub fn template_of(alloc: Global, groups: usize, bytes: &[u8]) -> Result<Template, ParseError>
-    ensures found { IfOk result (λ t. bytes.now ≡ template_tokens (replacement_of t)) }
-    ensures template { IfOk result (λ t. IsTemplate groups (replacement_of t)) }
-    ensures malformed { result ≡ Err ParseError.Malformed → (l : Replacement) → IsTemplate groups l → bytes.now ≡ template_tokens l → ⊥ }
+fn read_pair(alloc: Global, groups: usize, bytes: &[u8]) -> Read<Pair>
+    ensures { Meets (spec.read_pair groups bytes.now) (read_as pair_of result) }
 {
-    let Some((head, rest)) = cut_token(bytes) else {
-        return Err(ParseError::Malformed);
-    };
-    let head = text_in(alloc, head)?;
-    let pairs = pairs_of(alloc, groups, rest)?;
-    Ok(Template { head, pairs })
+    let (group, rest) = read_group(groups, bytes)?;
+    let (_, rest) = read_past(rest, b" ")?;
+    let (literal, rest) = read_text(alloc, rest)?;
+    Ok((Pair { group, literal }, rest))
 }
 
-// The token after a space, and the bytes from the next space on.
-fn cut_token(bytes: &[u8]) -> Option<(&[u8], &[u8])>
-    ensures found { IfSome result (λ x. IsTokenCut bytes.now x.0.now x.1.now) }
-    ensures none { IfNone result ((rest : List ℕ) → bytes.now ≢ 32 ∷ rest) }
+fn read_pairs(alloc: Global, groups: usize, bytes: &[u8]) -> Read<Vec<Pair>>
+    ensures { Meets (spec.read_pairs groups (suc (length bytes.now)) bytes.now)
+        (read_as (λ pairs. map pair_of pairs.items) result) }
 {
-    Some(split_at_space(bytes.strip_prefix(b" ")?))
-}
-
-// The pairs that these bytes spell.
-fn pairs_of(alloc: Global, groups: usize, bytes: &[u8]) -> Result<Vec<Pair>, ParseError>
-    ensures found { IfOk result (λ v. bytes.now ≡ pair_tokens (map pair_of v.items)) }
-    ensures pairs { IfOk result (λ v. ArePairs groups (map pair_of v.items)) }
-    ensures malformed { result ≡ Err ParseError.Malformed → (pairs : List (ℕ × List ℕ)) → ArePairs groups pairs → bytes.now ≡ pair_tokens pairs → ⊥ }
-{
-    let mut found = Vec::new(alloc);
-    let mut left = bytes;
-    while let Some((group, behind)) = cut_token(left) {
-        let Some((literal, after)) = cut_token(behind) else {
-            return Err(ParseError::Malformed);
-        };
-        let pair = pair_in(alloc, groups, group, literal)?;
-        found.push(pair)?;
-        left = after;
+    let mut pairs = Vec::new(alloc);
+    let mut rest = bytes;
+    while is_next(b' ', rest) {
+        let (pair, after) = read_pair(alloc, groups, after_next(rest))?;
+        pairs.push(pair)?;
+        rest = after;
     }
-    if !left.is_empty() {
-        return Err(ParseError::Malformed);
-    }
-    Ok(found)
+    Ok((pairs, rest))
 }
 
-// The pair that two tokens spell.
-fn pair_in(alloc: Global, groups: usize, group: &[u8], literal: &[u8]) -> Result<Pair, ParseError>
-    ensures group { IfOk result (λ p. group.now ≡ group_token p.group) }
-    ensures within { IfOk result (λ p. p.group ≤ groups) }
-    ensures literal { IfOk result (λ p. literal.now ≡ token p.literal.items) }
-    ensures scalars { IfOk result (λ p. all_scalars p.literal.items ≡ true) }
-    ensures malformed { result ≡ Err ParseError.Malformed → (g : ℕ) (text : List ℕ) → g ≤ groups → all_scalars text ≡ true → group.now ≡ group_token g → literal.now ≡ token text → ⊥ }
+/// The template of a pattern with so many groups.
+pub(crate) fn read_template(alloc: Global, groups: usize, bytes: &[u8]) -> Read<Template>
+    ensures { Meets (spec.read_template groups bytes.now) (read_as replacement_of result) }
 {
-    let Some(group) = group_in(groups, group) else {
-        return Err(ParseError::Malformed);
-    };
-    let literal = text_in(alloc, literal)?;
-    Ok(Pair { group, literal })
-}
-
-// The number of a group, or 0, whose token these bytes are.
-fn group_in(groups: usize, bytes: &[u8]) -> Option<usize>
-    ensures found { IfSome result (λ g. bytes.now ≡ group_token g) }
-    ensures within { IfSome result (λ g. g ≤ groups) }
-    ensures none { IfNone result ((g : ℕ) → g ≤ groups → bytes.now ≡ group_token g → ⊥) }
-{
-    let number = number_of(bytes.strip_prefix(b"i")?)? as usize;
-    if number > groups {
-        return None;
-    }
-    Some(number)
+    let (_, rest) = read_past(bytes, b" ")?;
+    let (head, rest) = read_text(alloc, rest)?;
+    let (pairs, rest) = read_pairs(alloc, groups, rest)?;
+    Ok((Template { head, pairs }, rest))
 }

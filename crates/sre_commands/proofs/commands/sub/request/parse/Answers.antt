@@ -1,27 +1,32 @@
-use Rattle.std.proofs.Common.{◌≡◌, ℕ, ◌<◌, ◌^◌, Err, ap, sym, subst, ◌∙◌, arith}
-use Rattle.std.proofs.lemmas.Fmt.{decimal_injective}
-use Rattle.std.proofs.lemmas.Result.{err_from_is_err_and}
-use Rattle.sre_commands.specs.declared.error.ParseError.TheVariants.{Malformed}
-use Rattle.sre_commands.specs.Commands.Sub.Template.{IsTemplate}
-use Rattle.sre_commands.specs.Commands.Sub.Lines.{LineTexts}
+use Rattle.std.proofs.Common.{◌≡◌, sym, Ok, Err, Result, IfOk, List, ℕ}
+use Rattle.sre_commands.specs.declared.error.ParseError.{ParseError}
+use Rattle.sre_commands.specs.declared.error.ParseError.TheVariants.{NoMemory, Malformed}
+use Rattle.sre_commands.specs.declared.commands.sub.request.Substitution.{Substitution}
+use Rattle.sre_commands.specs.Error.{Meets}
+use Rattle.sre_commands.specs.Commands.Sub.Request.{Request, IsRequest, text_of, request_of}
+use Rattle.sre_commands.specs.Commands.Sub.Reader.{read_request, result_as}
+use Rattle.sre_commands.proofs.SoundLemmas.{request_is}
+use Rattle.sre_commands.proofs.AgainLemmas.{request_again}
 use Rattle.sre_commands.proofs.commands.sub.request.parse.Goals as goal
 
-pub returns-clause-request : goal.returns-clause-request
-returns-clause-request c = record {
-  pattern = c.in_ok-pattern.ensures.scalars;
-  words = c.in_ok-words.ensures.small;
-  groups = omega arith;
-  limit = omega arith;
-  template = c.in_ok-template.ensures.template;
-  subject = c.in_ok-subject.ensures.scalars;
-}
+is_spelled : (bytes : List ℕ) (r : Result Substitution ParseError) → Meets (read_request bytes) (result_as request_of r) → IfOk r (λ a. bytes ≡ text_of (request_of a))
+is_spelled bytes (Ok a) m = (request_is bytes (request_of a) (sym m)).1
+is_spelled bytes (Err e) m = tt
 
-pub returns-in_err-template-clause-malformed : goal.returns-in_err-template-clause-malformed
-returns-in_err-template-clause-malformed c = λ was r ok e.
-    let p = err_from_is_err_and c.from_residual-in_err-template.result c.from_residual-in_err-template.ensures.1 in
-    let malformed : c.in_err-template.field-0.0 ≡ Malformed = cc (p.1, p.2, was) in
-    let same = c.in-Some.ensures.only r ok e in
-    let fits : c.in-Some-number_of.groups < 2 ^ 64 = omega arith in
-    let groups : c.in-Some-number_of.groups ≡ r.groups = decimal_injective c.in-Some-number_of.groups r.groups fits ok.groups (sym c.in-Some-number_of.ensures.found ∙ ap (λ (t : LineTexts). t.groups) same) in
-    let template : IsTemplate c.in-Some-number_of.groups r.template = subst (λ (n : ℕ). IsTemplate n r.template) (sym groups) ok.template in
-    c.in_err-template.ensures.malformed (ap Err malformed) r.template template (ap (λ (t : LineTexts). t.template) same)
+is_request : (bytes : List ℕ) (r : Result Substitution ParseError) → Meets (read_request bytes) (result_as request_of r) → IfOk r (λ a. IsRequest (request_of a))
+is_request bytes (Ok a) m = (request_is bytes (request_of a) (sym m)).0
+is_request bytes (Err e) m = tt
+
+is_none : (bytes : List ℕ) (r : Result Substitution ParseError) → Meets (read_request bytes) (result_as request_of r) → r ≡ Err Malformed → (q : Request) → IsRequest q → bytes ≡ text_of q → ⊥
+is_none bytes (Ok a) m e q h is = cc e
+is_none bytes (Err NoMemory) m e q h is = cc e
+is_none bytes (Err Malformed) m e q h is = let again = request_again bytes q h is in cc (m, again)
+
+pub returns-clause-spelled : goal.returns-clause-spelled
+returns-clause-spelled c = is_spelled c.args.bytes.now c.read_request.result c.read_request.ensures
+
+pub returns-clause-request : goal.returns-clause-request
+returns-clause-request c = is_request c.args.bytes.now c.read_request.result c.read_request.ensures
+
+pub returns-clause-malformed : goal.returns-clause-malformed
+returns-clause-malformed c = is_none c.args.bytes.now c.read_request.result c.read_request.ensures
