@@ -5,7 +5,7 @@ ghost use Rattle.std.specs.Prelude.{◌≡◌, ◌<◌};
 use py_base::Steps;
 use sre_code::{Checked, decode};
 use sre_match::{MatchError, PlaceView, Request, SearchIter};
-use std::alloc::Global;
+use std::alloc::{AllocError, Global};
 use std::marker::Brand;
 use std::sync::ledger::{Blank, Ledger};
 use std::test::Fail;
@@ -37,11 +37,20 @@ const A_OR_B: [u32; 18] = [
     23, 15, 0, 4294967295, 7, 5, 16, 97, 15, 7, 5, 16, 98, 15, 2, 0, 18, 1,
 ];
 
+// So many times `ab`.
+fn pairs(alloc: Global, count: usize) -> Result<Vec<u32>, AllocError> {
+    let mut units = Vec::new(alloc);
+    for _ in 0..count {
+        units.extend_from_slice(&[97, 98])?;
+    }
+    Ok(units)
+}
+
 // A million units, by turns `a` and `b`, are one span.
 #[test]
 fn million(rt: HostRuntime) -> Result<(), Fail> {
     let code = decode(rt.alloc(), &A_OR_B, 0)?;
-    let subject = [97, 98].repeat(rt.alloc(), 500_000)?;
+    let subject = pairs(rt.alloc(), 500_000)?;
     let span = first(rt.alloc(), &code, &subject)?;
     assert_eq!(rt; span, (0, 1_000_000));
     Ok(())
