@@ -46,7 +46,8 @@ fn read_request<S: Source>(alloc: Global, source: &mut S) -> Result<Substitution
     ensures read { IfOk result (λ asked. ReadWhole
         (reading_of S.left S.faults source.old source.new) (text_of (request_of asked))) }
     ensures request { IfOk result (λ asked. IsRequest (request_of asked)) }
-    ensures within { OnOk result (TookAtMost MOST_BYTES (reading_of S.left S.faults source.old source.new)) }
+    ensures within { OnOk result (TookAtMost MOST_BYTES
+        (reading_of S.left S.faults source.old source.new)) }
     ensures error { IfErr result (λ ending. EndsReading ending MOST_BYTES
         (reading_of S.left S.faults source.old source.new)) }
 {
@@ -93,7 +94,8 @@ fn written<K: Sink>(sink: &mut K, line: &String, ending: Ending) -> Ending
         (writing_of K.contents K.faults sink.old sink.new) (string_bytes line.now) }
     ensures less { result ≢ ending → WroteLess
         (writing_of K.contents K.faults sink.old sink.new) (string_bytes line.now) }
-    ensures failed { result ≢ ending → WriteFailed (writing_of K.contents K.faults sink.old sink.new) }
+    ensures failed { result ≢ ending
+        → WriteFailed (writing_of K.contents K.faults sink.old sink.new) }
 {
     match write_all(sink, line.as_bytes()) {
         Ok(()) => ending,
@@ -148,7 +150,8 @@ pub fn run<S: Source, K: Sink, L: Ledger>(
     ensures faulted { result ≡ status_of Ending.Faulted → IsFaulted
         (reading_of S.left S.faults source.old source.new)
         (writing_of K.contents K.faults sink.old sink.new) }
-    ensures no_command { (result ≡ status_of Ending.NoCommand) ↔ (IsSub (map string_bytes arguments.now) → ⊥) }
+    ensures no_command { (result ≡ status_of Ending.NoCommand)
+        ↔ (IsSub (map string_bytes arguments.now) → ⊥) }
     ensures malformed { result ≡ status_of Ending.NoRequest → IsMalformed
         (reading_of S.left S.faults source.old source.new) }
     ensures source_failed { result ≡ status_of Ending.SourceFailed → ReadFailed
@@ -186,7 +189,8 @@ pub fn run<S: Source, K: Sink, L: Ledger>(
         → length bytes ≤ MOST_BYTES
         → ¬ ReadFailed (reading_of S.left S.faults source.old source.new)
         → IsEither result Ending.NoRequest Ending.NoMemory }
-    ensures too_many { (bytes : List ℕ) → Asks (map string_bytes arguments.now) (S.left source.old) bytes
+    ensures too_many { (bytes : List ℕ)
+        → Asks (map string_bytes arguments.now) (S.left source.old) bytes
         → MOST_BYTES < length bytes
         → ¬ ReadFailed (reading_of S.left S.faults source.old source.new)
         → IsEither result Ending.TooLong Ending.NoMemory }

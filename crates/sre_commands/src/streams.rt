@@ -68,7 +68,8 @@ pub fn read_all<S: Source>(alloc: Global, source: &mut S) -> Result<Vec<u8>, Inp
 /// Writes all of the bytes.
 pub fn write_all<K: Sink>(sink: &mut K, bytes: &[u8]) -> Result<(), py_base::Failed>
     ensures all { OnOk result (Wrote (writing_of K.contents K.faults sink.old sink.new) bytes.now) }
-    ensures less { OnErr result (WroteLess (writing_of K.contents K.faults sink.old sink.new) bytes.now) }
+    ensures less { OnErr result (WroteLess
+        (writing_of K.contents K.faults sink.old sink.new) bytes.now) }
     ensures failed { OnErr result (WriteFailed (writing_of K.contents K.faults sink.old sink.new)) }
 {
     let mut written = 0;

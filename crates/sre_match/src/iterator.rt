@@ -1,8 +1,8 @@
 //! The spans of a subject, one after another.
 
 ghost use Rattle.std.specs.Prelude.{◌≡◌, ◌≢◌, ◌≤◌, ◌+◌, false, true, Ok, IfOk, OnErr, [], OnOk};
-ghost use Rattle.sre_match.specs.Matches.{if_found, next_span, next_reads};
-ghost use Rattle.sre_match.specs.Search.{Standing, stands_behind};
+ghost use Rattle.sre_match.specs.Matches.{if_found};
+ghost use Rattle.sre_match.specs.Search.{Standing, stands_behind, walk_next, walk_reads};
 
 use crate::error::MatchError;
 use crate::matcher::search::next_ends;
@@ -34,9 +34,14 @@ impl<'c, S: StrDrive> Model for SearchIter<'c, S> {
 
     ghost coded = { walk_code };
 
-    ghost view = { λ w. record { search = w.request; standing = record { place = place_of w.cursor w.request.start; advance = w.advance }; span = w.state } };
+    ghost view = { λ w. record {
+        search = w.request;
+        standing = record { place = place_of w.cursor w.request.start; advance = w.advance };
+        span = w.state } };
 
-    ghost invariant = { λ w. (w.request.whole ≡ false) × (fits_or_past (S.fits w.request.subject) (length w.request.subject) w.request.start w.cursor ≡ true) };
+    ghost invariant = { λ w. (w.request.whole ≡ false)
+        × (fits_or_past (S.fits w.request.subject) (length w.request.subject)
+            w.request.start w.cursor ≡ true) };
 }
 
 impl<'c, S: StrDrive> SearchIter<'c, S> {
@@ -45,7 +50,8 @@ impl<'c, S: StrDrive> SearchIter<'c, S> {
         requires whole { request.whole ≡ false }
         requires advance { request.advance ≡ false }
         ensures search { result.search ≡ request.entry }
-        ensures standing { result.standing ≡ record { place = request.entry.start; advance = false } }
+        ensures standing { let start = request.entry.start in
+            result.standing ≡ record { place = start; advance = false } }
         ensures span { result.span ≡ record { start = 0; stop = 0; marks = [] } }
     {
         SearchIter {
@@ -64,12 +70,13 @@ impl<'c, S: StrDrive> SearchIter<'c, S> {
     /// `NoMemory`. The walk is where it was, and has the span that it had.
     pub fn next<L: Ledger>(&mut self, steps: &mut Steps<L>) -> Result<bool, MatchError>
         requires { S.counts L.name }
-        ensures found { IfOk result (λ found. if_found found self.new.span ≡ next_span self.old.search.tree self.old.search.subject self.old.standing.place self.old.standing.advance false) }
-        ensures moved { OnOk result (self.new.standing ≡ stands_behind (next_span self.old.search.tree self.old.search.subject self.old.standing.place self.old.standing.advance false) self.old.standing) }
+        ensures found { IfOk result (λ found. if_found found self.new.span ≡ walk_next self.old) }
+        ensures moved { OnOk result
+            (self.new.standing ≡ stands_behind (walk_next self.old) self.old.standing) }
         ensures refused { OnErr result (self.new.standing ≡ self.old.standing) }
         ensures kept { result ≢ Ok true → self.new.span ≡ self.old.span }
         ensures search { self.new.search ≡ self.old.search }
-        ensures cost { steps.new ≤ steps.old + next_reads self.old.search.tree self.old.search.subject self.old.standing.place self.old.standing.advance false }
+        ensures cost { steps.new ≤ steps.old + walk_reads self.old }
     {
         let cursor = match self.cursor {
             None => return Ok(false),

@@ -1,8 +1,9 @@
 //! The last match.
 
-ghost use Rattle.std.specs.Prelude.{◌≡◌, ◌≢◌, ◌≤◌, ◌+◌, [], true, Ok, IfOk, option_map};
+ghost use Rattle.std.specs.Prelude.{◌≡◌, ◌≢◌, ◌≤◌, ◌+◌, [], true, Ok, IfOk};
 ghost use Rattle.sre_match.specs.Captures.{captures};
-ghost use Rattle.sre_match.specs.Matches.{if_found, span_at, first_allowed, reads, next_span, next_reads};
+ghost use Rattle.sre_match.specs.Matches.{if_found};
+ghost use Rattle.sre_match.specs.Search.{match_here, reads_here, match_next, reads_next};
 
 use crate::error::MatchError;
 use crate::marks::{Capture, Marks};
@@ -47,7 +48,8 @@ impl State {
 
     // Takes a match with these captures, and leaves the room of those that it had.
     pub(crate) fn hold(&mut self, start: StringCursor, stop: StringCursor, marks: &mut Vec<Capture>)
-        ensures { self.new ≡ record { start = start.place; stop = stop.place; marks = captures marks.old.items } }
+        ensures { let marks = captures marks.old.items in
+            self.new ≡ record { start = start.place; stop = stop.place; marks = marks } }
     {
         self.start = start;
         self.stop = stop;
@@ -55,19 +57,15 @@ impl State {
     }
 
     /// Whether there is an allowed outcome at the request's start. The state then has the first one.
-    ///
-    /// # Errors
-    ///
-    /// `NoMemory`.
     pub fn pymatch<S: StrDrive, L: Ledger>(
         &mut self,
         request: &Request<'_, S>,
         steps: &mut Steps<L>,
     ) -> Result<bool, MatchError>
         requires { S.counts L.name }
-        ensures found { IfOk result (λ found. if_found found self.new ≡ option_map (span_at request.now.start) (first_allowed request.now.tree request.now.subject request.now.start request.now.advance request.now.whole)) }
+        ensures found { IfOk result (λ found. if_found found self.new ≡ match_here request.now) }
         ensures kept { result ≢ Ok true → self.new ≡ self.old }
-        ensures cost { steps.new ≤ steps.old + reads request.now.tree request.now.subject request.now.start request.now.advance request.now.whole }
+        ensures cost { steps.new ≤ steps.old + reads_here request.now }
     {
         let mut trail = new_trail(self.alloc);
         let start = match request.first_cursor() {
@@ -84,19 +82,15 @@ impl State {
     }
 
     /// The same at the least place from the request's start on that has an allowed outcome.
-    ///
-    /// # Errors
-    ///
-    /// `NoMemory`.
     pub fn search<S: StrDrive, L: Ledger>(
         &mut self,
         request: &Request<'_, S>,
         steps: &mut Steps<L>,
     ) -> Result<bool, MatchError>
         requires { S.counts L.name }
-        ensures found { IfOk result (λ found. if_found found self.new ≡ next_span request.now.tree request.now.subject request.now.start request.now.advance request.now.whole) }
+        ensures found { IfOk result (λ found. if_found found self.new ≡ match_next request.now) }
         ensures kept { result ≢ Ok true → self.new ≡ self.old }
-        ensures cost { steps.new ≤ steps.old + next_reads request.now.tree request.now.subject request.now.start request.now.advance request.now.whole }
+        ensures cost { steps.new ≤ steps.old + reads_next request.now }
     {
         let mut trail = new_trail(self.alloc);
         let from = match request.first_cursor() {

@@ -3,7 +3,7 @@
 ghost use Rattle.std.specs.Prelude.{◌≡◌, ◌≤◌, ◌+◌, length};
 ghost use Rattle.sre_match.specs.Cursor.{is_within};
 ghost use Rattle.sre_match.specs.CursorLemmas.{within_list, within_cut};
-ghost use Rattle.sre_match.specs.Matches.{next_reads};
+ghost use Rattle.sre_match.specs.Search.{reads_next};
 
 use crate::error::MatchError;
 use crate::request::Request;
@@ -96,7 +96,7 @@ pub fn metered_search<'s, L: Ledger>(
     request: &Request<'_, MeteredView<'s, L>>,
     steps: &mut Steps<L>,
 ) -> Result<bool, MatchError>
-    ensures cost { steps.new ≤ steps.old + next_reads request.now.tree request.now.subject request.now.start request.now.advance request.now.whole }
+    ensures cost { steps.new ≤ steps.old + reads_next request.now }
 {
     state.search(request, steps)
 }

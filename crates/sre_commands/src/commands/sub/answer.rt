@@ -2,8 +2,8 @@
 
 ghost use Rattle.std.specs.Prelude.{◌≡◌, ◌++◌, ◌+◌, List, ℕ, false, true, length, IfOk, OnOk, string_bytes, encode_utf8_all};
 ghost use Rattle.std.specs.Str.{all_scalars};
-ghost use Rattle.sre_match.specs.Matches.{if_found, next_span, spans};
-ghost use Rattle.sre_match.specs.Search.{stands_behind};
+ghost use Rattle.sre_match.specs.Matches.{if_found, spans};
+ghost use Rattle.sre_match.specs.Search.{stands_behind, walk_next};
 ghost use Rattle.sre_match.specs.Filling.{result_of};
 ghost use Rattle.sre_commands.specs.Commands.Sub.Request.{IsRequest, request_of};
 ghost use Rattle.sre_commands.specs.Commands.Sub.Template.{replacement_of};
@@ -32,13 +32,10 @@ fn has_next<'c, S: StrDrive, L: Ledger>(
     steps: &mut Steps<L>,
 ) -> Result<bool, MatchError>
     requires { S.counts L.name }
-    ensures found { let next = next_span walk.old.search.tree walk.old.search.subject
-        walk.old.standing.place walk.old.standing.advance false in
-        IfOk result (λ found. if_found found walk.new.span ≡ up_to limit count next) }
-    ensures moved { let next = next_span walk.old.search.tree walk.old.search.subject
-        walk.old.standing.place walk.old.standing.advance false in
-        OnOk result
-        (walk.new.standing ≡ stands_behind (up_to limit count next) walk.old.standing) }
+    ensures found { let next = up_to limit count (walk_next walk.old) in
+        IfOk result (λ found. if_found found walk.new.span ≡ next) }
+    ensures moved { let next = up_to limit count (walk_next walk.old) in
+        OnOk result (walk.new.standing ≡ stands_behind next walk.old.standing) }
     ensures search { walk.new.search ≡ walk.old.search }
 {
     if is_reached(limit, count) {
