@@ -35,13 +35,14 @@ impl<'c, S: StrDrive> Model for SearchIter<'c, S> {
     ghost coded = { walk_code };
 
     ghost view = { λ w. record {
-        search = w.request;
-        standing = record { place = place_of w.cursor w.request.start; advance = w.advance };
-        span = w.state } };
+      search = w.request;
+      standing = record { place = place_of w.cursor w.request.start; advance = w.advance };
+      span = w.state;
+    } };
 
     ghost invariant = { λ w. (w.request.whole ≡ false)
         × (fits_or_past (S.fits w.request.subject) (length w.request.subject)
-            w.request.start w.cursor ≡ true) };
+        w.request.start w.cursor ≡ true) };
 }
 
 impl<'c, S: StrDrive> SearchIter<'c, S> {
