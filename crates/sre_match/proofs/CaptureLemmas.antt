@@ -1,7 +1,7 @@
 -- Captures, and the log of them.
-use Rattle.std.proofs.Common.{◌≡◌, ◌∙◌, sym, ap, refl, subst, ℕ, zero, suc, ◌+◌, ◌-◌, ◌<◌, ◌≤◌, List, [], ◌∷◌, ◌++◌, length, take, drop, get_or, arith, Some, None}
+use Rattle.std.proofs.Common.{◌≡◌, ◌∙◌, sym, ap, refl, ℕ, zero, suc, ◌+◌, ◌-◌, ◌<◌, ◌≤◌, List, [], ◌∷◌, ◌++◌, length, take, drop, get_or, arith, Some, None}
 use Rattle.sre_match.specs.declared.marks.Capture.{Capture}
-use Rattle.sre_match.specs.Attempts.{Captured, Marks, span_of, last_group}
+use Rattle.sre_match.specs.Attempts.{Captured, span_of, last_group}
 use Rattle.sre_match.specs.Captures.{captured_by, captures, span_by}
 use Rattle.sre_match.proofs.LastCaptureLemmas.{span_hit, span_miss, last_group-at}
 

@@ -1,11 +1,11 @@
 -- Cursors that fit a list.
-use Rattle.std.proofs.Common.{◌≡◌, ◌∙◌, sym, ap, refl, subst, ℕ, zero, suc, ◌+◌, ◌-◌, ◌<◌, ◌≤◌, Bool, true, false, ◌&&◌, not, nat_lt, ◌==◌, min, List, [], ◌∷◌, ◌++◌, length, take, drop, arith, append_assoc, length-append, get_or, chars, encode_utf8, encode_utf8_all, Option, Some, None}
+use Rattle.std.proofs.Common.{◌≡◌, ◌∙◌, sym, ap, refl, subst, ℕ, zero, suc, ◌+◌, ◌-◌, ◌<◌, ◌≤◌, true, List, [], ◌∷◌, ◌++◌, length, take, drop, arith, length-append, chars, encode_utf8, encode_utf8_all, Option, Some, None}
 use Rattle.std.specs.Prelude.{slice_get, slice_index, slice_range}
 use Rattle.std.specs.Option.{IsSome, MatchOption}
 use Rattle.std.specs.Char.{len_utf8, IsScalar}
 use Rattle.std.specs.Str.{IsUtf8, IsCharBoundary, all_scalars}
-use Rattle.std.proofs.lemmas.Bool.{and_parts, and_from, eqb-true, eq-eqb, not-true, ltb-false, le-ltb, not_from_false}
-use Rattle.std.proofs.lemmas.List.{take-append-drop, length-take, length-take-le, length-drop, drop_more, drop-take}
+use Rattle.std.proofs.lemmas.Bool.{and_parts, and_from}
+use Rattle.std.proofs.lemmas.List.{take-append-drop, length-take-le, drop_more}
 use Rattle.std.proofs.lemmas.Str.{encodes-append, chars-encodes, scalars-chars, encodes-chars, chars-append, IsUtf8-encode, IsUtf8-take, IsCharBoundary-at_seam, length-encode, length-le-encodes, chars_past_char, chars-nil}
 use Rattle.std.proofs.lemmas.List.{append-nil}
 use Rattle.std.proofs.Math.Seq.{take-append_seam, drop-append_seam}

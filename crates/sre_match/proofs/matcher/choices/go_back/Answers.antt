@@ -1,5 +1,4 @@
-use Rattle.std.proofs.Common.{◌≡◌, ◌∙◌, ap, sym, rules, List, [], arith}
-use Rattle.sre_match.specs.Machine.{to_try}
+use Rattle.std.proofs.Common.{rules}
 use Rattle.sre_match.proofs.matcher.choices.go_back.Goals as goal
 
 pub loop-choice-preserved : goal.loop-choice-preserved

@@ -1,4 +1,4 @@
-use Rattle.std.proofs.Common.{sym, ap, refl, ◌∙◌, [], None, arith}
+use Rattle.std.proofs.Common.{ap, refl, ◌∙◌, [], None, arith}
 use Rattle.sre_code.specs.TreeView.{tree_of}
 use Rattle.sre_match.specs.Machine.{part_next}
 use Rattle.sre_match.specs.Attempts.{chosen, cost_of}

@@ -1,4 +1,3 @@
-use Rattle.std.proofs.Common.{◌≡◌}
 use Rattle.sre_match.proofs.matcher.machine.task_turn.Goals as goal
 
 pub returns-in-EndGroup-clause-placed : goal.returns-in-EndGroup-clause-placed

@@ -1,6 +1,6 @@
 use Rattle.sre_match.specs.Captures.{captures}
-use Rattle.std.proofs.Common.{◌≡◌, sym, ap, ◌∙◌, ◌≤◌, length, arith, ℕ, []}
-use Rattle.std.specs.Prelude.{Option, Some, None, option_map}
+use Rattle.std.proofs.Common.{◌≡◌, sym, ap, ◌∙◌, arith, ℕ, []}
+use Rattle.std.specs.Prelude.{Option, Some, option_map}
 use Rattle.sre_match.specs.Captures.{span_by}
 use Rattle.sre_match.specs.Machine.{run, to_try}
 use Rattle.sre_match.specs.Attempts.{after, Next, span_of}

@@ -1,7 +1,7 @@
-use Rattle.std.proofs.Common.{sym, ap, ◌≡◌, ◌∙◌, ◌+◌, ◌<◌, ◌≤◌, drop, length, arith}
+use Rattle.std.proofs.Common.{sym, ◌∙◌, ◌<◌, drop, length, arith}
 use Rattle.std.specs.Prelude.{nat_eq, slice_range}
 use Rattle.std.specs.List.{starts_with}
-use Rattle.sre_match.proofs.UnitLemmas.{starts_more, starts_differ, starts_past, range_length}
+use Rattle.sre_match.proofs.UnitLemmas.{starts_more, starts_differ}
 use Rattle.sre_match.proofs.matcher.references.same_text.Goals as goal
 
 pub returns-then-a-b-clause-same : goal.returns-then-a-b-clause-same

@@ -1,5 +1,5 @@
 use Rattle.sre_match.specs.Captures.{captures}
-use Rattle.std.proofs.Common.{◌≡◌, ◌≤◌, ◌+◌, false, None, length, sym, ap, ◌∙◌, arith}
+use Rattle.std.proofs.Common.{◌≡◌, ◌+◌, false, None, sym, ap, ◌∙◌, arith}
 use Rattle.sre_match.specs.Machine.{outcome_at}
 use Rattle.sre_match.specs.Matches.{first_allowed, next_span, next_reads}
 use Rattle.sre_match.proofs.NextSpanLemmas.{next_past, next_found, next_on, reads_here, reads_on}

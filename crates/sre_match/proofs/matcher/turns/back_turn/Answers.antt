@@ -1,5 +1,4 @@
-use Rattle.std.proofs.Common.{◌≡◌, subst, sym}
-use Rattle.sre_match.specs.declared.matcher.trail.Trail.{Trail}
+use Rattle.std.proofs.Common.{subst, sym}
 use Rattle.sre_match.specs.Fits.{Fit}
 use Rattle.sre_match.proofs.matcher.turns.back_turn.Goals.{then-count-gt0+in-Ok, else-count-gt0}
 use Rattle.sre_match.proofs.matcher.turns.back_turn.Goals as goal

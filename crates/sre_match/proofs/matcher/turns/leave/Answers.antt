@@ -6,8 +6,6 @@ use Rattle.sre_match.specs.Machine.{onward, part_next, wrap, to_try, level_of}
 use Rattle.sre_match.proofs.AfterLemmas.{stay_after}
 use Rattle.sre_match.proofs.ChoiceLemmas.{pile_fail}
 use Rattle.sre_match.proofs.LessLemmas.{leaves_is, leaves_failed}
-use Rattle.std.proofs.Common.{◌≡◌, true}
-use Rattle.sre_match.specs.Cursor.{Cursor}
 use Rattle.sre_match.proofs.matcher.turns.leave.Goals as goal
 
 pub returns-in-Atomic-clause-gives : goal.returns-in-Atomic-clause-gives
