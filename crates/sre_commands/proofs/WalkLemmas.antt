@@ -5,22 +5,22 @@ use Rattle.std.proofs.lemmas.List.{take_all}
 use Rattle.std.proofs.lemmas.Bool.{eqb-true, leb-true, leb-false, ltb-true}
 use Rattle.sre_code.specs.PlainTree.{PlainTree}
 use Rattle.sre_match.specs.Matches.{Span, next_span, is_empty_span, spans}
-use Rattle.sre_match.specs.Search.{Search, Standing, start_of, stands_behind}
+use Rattle.sre_match.specs.Search.{Search, NextStart, start_of, start_after}
 use Rattle.sre_match.specs.Filling.{Replacement, fill, result_from, result_of}
 use Rattle.sre_match.proofs.Spans.{Follows, next_follows, turns, turns_fall, wanted, wanted_first, wanted_none, wanted_full, wanted_some}
 use Rattle.sre_commands.specs.Commands.Sub.Answer.{is_reached, up_to}
 
 -- so much of a result is copied, up to a place where the walk stands
-pub record Copied (list : Replacement) (s : List ℕ) (t : PlainTree) (limit count : ℕ) (standing : Standing) (place : ℕ) (units : List ℕ) : Type 0 where
-  pub place_is : place ≡ standing.place
+pub record Copied (list : Replacement) (s : List ℕ) (t : PlainTree) (limit count : ℕ) (next_start : NextStart) (place : ℕ) (units : List ℕ) : Type 0 where
+  pub place_is : place ≡ next_start.place
   pub within : place ≤ length s
-  pub whole : units ++ result_from place s (wanted limit count t s standing.place standing.advance) list ≡ result_of s (spans t s 0 limit) list
-  pub number : count + length (wanted limit count t s standing.place standing.advance) ≡ length (spans t s 0 limit)
-  pub room : count + turns s standing.place standing.advance ≤ 2 * length s + 1
+  pub whole : units ++ result_from place s (wanted limit count t s next_start.place next_start.advance) list ≡ result_of s (spans t s 0 limit) list
+  pub number : count + length (wanted limit count t s next_start.place next_start.advance) ≡ length (spans t s 0 limit)
+  pub room : count + turns s next_start.place next_start.advance ≤ 2 * length s + 1
 
-pub copied_start : (list : Replacement) (s : List ℕ) (t : PlainTree) (limit : ℕ) (standing : Standing) → standing ≡ record { place = 0; advance = false } → Copied list s t limit 0 standing 0 []
-copied_start list s t limit standing is =
-    let start : Standing = record { place = 0; advance = false } in
+pub copied_start : (list : Replacement) (s : List ℕ) (t : PlainTree) (limit : ℕ) (next_start : NextStart) → next_start ≡ record { place = 0; advance = false } → Copied list s t limit 0 next_start 0 []
+copied_start list s t limit next_start is =
+    let start : NextStart = record { place = 0; advance = false } in
     let made : Copied list s t limit 0 start 0 [] = record {
       place_is = refl;
       within = omega arith;
@@ -28,7 +28,7 @@ copied_start list s t limit standing is =
       number = ap (λ (xs : List Span). 0 + length xs) (wanted_first limit t s) ∙ omega arith;
       room = omega arith;
     } in
-    subst (λ (x : Standing). Copied list s t limit 0 x 0 []) (sym is) made
+    subst (λ (x : NextStart). Copied list s t limit 0 x 0 []) (sym is) made
 
 no_zero : (n : ℕ) → eqb (suc n) 0 ≡ false
 no_zero n = at (eqb (suc n) 0) refl
@@ -54,50 +54,50 @@ reached zero count e = absurd cc
 reached (suc limit) count e = (λ z. cc z, leb-true (suc limit) count (rw (no_zero limit) at e))
 
 -- what is known where one more span is to be replaced
-pub record IsNext (s : List ℕ) (t : PlainTree) (limit count : ℕ) (standing : Standing) (x : Span) : Type 0 where
+pub record IsNext (s : List ℕ) (t : PlainTree) (limit count : ℕ) (next_start : NextStart) (x : Span) : Type 0 where
   pub short : (limit ≡ 0) ⊎ (count < limit)
-  pub next : next_span t s standing.place standing.advance false ≡ Some x
+  pub next : next_span t s next_start.place next_start.advance false ≡ Some x
 
-pub next_is : (s : List ℕ) (t : PlainTree) (limit count : ℕ) (standing : Standing) (x : Span) → Some x ≡ up_to limit count (next_span t s standing.place standing.advance false) → IsNext s t limit count standing x
-next_is s t limit count standing x e = at (is_reached limit count) refl e
+pub next_is : (s : List ℕ) (t : PlainTree) (limit count : ℕ) (next_start : NextStart) (x : Span) → Some x ≡ up_to limit count (next_span t s next_start.place next_start.advance false) → IsNext s t limit count next_start x
+next_is s t limit count next_start x e = at (is_reached limit count) refl e
   where
-    at : (b : Bool) → is_reached limit count ≡ b → Some x ≡ cond b None (next_span t s standing.place standing.advance false) → IsNext s t limit count standing x
+    at : (b : Bool) → is_reached limit count ≡ b → Some x ≡ cond b None (next_span t s next_start.place next_start.advance false) → IsNext s t limit count next_start x
     at true is e = absurd cc
     at false is e = record { short = not_reached limit count is; next = sym e }
 
-pub none_is : (s : List ℕ) (t : PlainTree) (limit count : ℕ) (standing : Standing) → None ≡ up_to limit count (next_span t s standing.place standing.advance false) → wanted limit count t s standing.place standing.advance ≡ []
-none_is s t limit count standing e = at (is_reached limit count) refl e
+pub none_is : (s : List ℕ) (t : PlainTree) (limit count : ℕ) (next_start : NextStart) → None ≡ up_to limit count (next_span t s next_start.place next_start.advance false) → wanted limit count t s next_start.place next_start.advance ≡ []
+none_is s t limit count next_start e = at (is_reached limit count) refl e
   where
-    at : (b : Bool) → is_reached limit count ≡ b → None ≡ cond b None (next_span t s standing.place standing.advance false) → wanted limit count t s standing.place standing.advance ≡ []
-    at true is e = let h = reached limit count is in wanted_full limit count t s standing.place standing.advance h.0 h.1
-    at false is e = wanted_none limit count t s standing.place standing.advance (sym e)
+    at : (b : Bool) → is_reached limit count ≡ b → None ≡ cond b None (next_span t s next_start.place next_start.advance false) → wanted limit count t s next_start.place next_start.advance ≡ []
+    at true is e = let h = reached limit count is in wanted_full limit count t s next_start.place next_start.advance h.0 h.1
+    at false is e = wanted_none limit count t s next_start.place next_start.advance (sym e)
 
-pub next_after : (s : List ℕ) (t : PlainTree) (limit count : ℕ) (standing after : Standing) (x : Span) → Some x ≡ up_to limit count (next_span t s standing.place standing.advance false) → after ≡ stands_behind (up_to limit count (next_span t s standing.place standing.advance false)) standing → after ≡ record { place = x.stop; advance = is_empty_span x }
-next_after s t limit count standing after x e moved = moved ∙ ap (λ (o : Option Span). stands_behind o standing) (sym e)
+pub next_after : (s : List ℕ) (t : PlainTree) (limit count : ℕ) (next_start after : NextStart) (x : Span) → Some x ≡ up_to limit count (next_span t s next_start.place next_start.advance false) → after ≡ start_after (up_to limit count (next_span t s next_start.place next_start.advance false)) next_start → after ≡ record { place = x.stop; advance = is_empty_span x }
+next_after s t limit count next_start after x e moved = moved ∙ ap (λ (o : Option Span). start_after o next_start) (sym e)
 
-pub follows_is : (list : Replacement) (s : List ℕ) (t : PlainTree) (limit count : ℕ) (standing : Standing) (place : ℕ) (units : List ℕ) (x : Span) → Copied list s t limit count standing place units → Some x ≡ up_to limit count (next_span t s standing.place standing.advance false) → Follows s place standing.advance x
-follows_is list s t limit count standing place units x k e =
-    let n = next_is s t limit count standing x e in
-    let f = next_follows t s standing.place standing.advance false x (omega (arith, k.place_is, k.within)) n.next in
-    subst (λ (q : ℕ). Follows s q standing.advance x) (sym k.place_is) f
+pub follows_is : (list : Replacement) (s : List ℕ) (t : PlainTree) (limit count : ℕ) (next_start : NextStart) (place : ℕ) (units : List ℕ) (x : Span) → Copied list s t limit count next_start place units → Some x ≡ up_to limit count (next_span t s next_start.place next_start.advance false) → Follows s place next_start.advance x
+follows_is list s t limit count next_start place units x k e =
+    let n = next_is s t limit count next_start x e in
+    let f = next_follows t s next_start.place next_start.advance false x (omega (arith, k.place_is, k.within)) n.next in
+    subst (λ (q : ℕ). Follows s q next_start.advance x) (sym k.place_is) f
 
 -- one gap and one filled list more
-pub copied_more : (list : Replacement) (s : List ℕ) (t : PlainTree) (limit count : ℕ) (standing after : Standing) (place : ℕ) (was mid new : List ℕ) (x : Span)
-    → Copied list s t limit count standing place was
-    → Some x ≡ up_to limit count (next_span t s standing.place standing.advance false)
-    → after ≡ stands_behind (up_to limit count (next_span t s standing.place standing.advance false)) standing
+pub copied_more : (list : Replacement) (s : List ℕ) (t : PlainTree) (limit count : ℕ) (next_start after : NextStart) (place : ℕ) (was mid new : List ℕ) (x : Span)
+    → Copied list s t limit count next_start place was
+    → Some x ≡ up_to limit count (next_span t s next_start.place next_start.advance false)
+    → after ≡ start_after (up_to limit count (next_span t s next_start.place next_start.advance false)) next_start
     → mid ≡ was ++ slice_range s place x.start → new ≡ mid ++ fill list s x
     → Copied list s t limit (count + 1) after x.stop new
-copied_more list s t limit count standing after place was mid new x k e moved m n =
-    let next = next_is s t limit count standing x e in
-    let q = standing.place in
+copied_more list s t limit count next_start after place was mid new x k e moved m n =
+    let next = next_is s t limit count next_start x e in
+    let q = next_start.place in
     let le : q ≤ length s = omega (arith, k.place_is, k.within) in
-    let f = next_follows t s q standing.advance false x le next.next in
-    let falls = turns_fall s q standing.advance x f in
-    let one : wanted limit count t s q standing.advance ≡ x ∷ wanted limit (count + 1) t s x.stop (is_empty_span x) = wanted_some limit count t s q standing.advance x le next.short next.next in
+    let f = next_follows t s q next_start.advance false x le next.next in
+    let falls = turns_fall s q next_start.advance x f in
+    let one : wanted limit count t s q next_start.advance ≡ x ∷ wanted limit (count + 1) t s x.stop (is_empty_span x) = wanted_some limit count t s q next_start.advance x le next.short next.next in
     let rest = result_from x.stop s (wanted limit (count + 1) t s x.stop (is_empty_span x)) list in
     let before : was ++ (slice_range s place x.start ++ (fill list s x ++ rest)) ≡ result_of s (spans t s 0 limit) list = (rw one at k.whole) in
-    let there : Standing = record { place = x.stop; advance = is_empty_span x } in
+    let there : NextStart = record { place = x.stop; advance = is_empty_span x } in
     let made : Copied list s t limit (count + 1) there x.stop new = record {
       place_is = refl;
       within = f.to;
@@ -105,35 +105,35 @@ copied_more list s t limit count standing after place was mid new x k e moved m 
       number = let long = ap length one in omega (arith, long, k.number);
       room = omega (arith, falls, k.room);
     } in
-    subst (λ (y : Standing). Copied list s t limit (count + 1) y x.stop new) (sym (next_after s t limit count standing after x e moved)) made
+    subst (λ (y : NextStart). Copied list s t limit (count + 1) y x.stop new) (sym (next_after s t limit count next_start after x e moved)) made
 
 -- the last gap
-pub copied_end : (list : Replacement) (s : List ℕ) (t : PlainTree) (limit count : ℕ) (standing : Standing) (place : ℕ) (was new : List ℕ)
-    → Copied list s t limit count standing place was
-    → None ≡ up_to limit count (next_span t s standing.place standing.advance false)
+pub copied_end : (list : Replacement) (s : List ℕ) (t : PlainTree) (limit count : ℕ) (next_start : NextStart) (place : ℕ) (was new : List ℕ)
+    → Copied list s t limit count next_start place was
+    → None ≡ up_to limit count (next_span t s next_start.place next_start.advance false)
     → new ≡ was ++ drop place s → (new ≡ result_of s (spans t s 0 limit) list) × (count ≡ length (spans t s 0 limit))
-copied_end list s t limit count standing place was new k e n =
-    let none = none_is s t limit count standing e in
+copied_end list s t limit count next_start place was new k e n =
+    let none = none_is s t limit count next_start e in
     (n ∙ (rw none at k.whole), (let long = ap length none in omega (arith, long, k.number)))
 
 -- the same over equal trees and subjects
 pub over_same : (u t : PlainTree) (v s : List ℕ) (limit count q : ℕ) (advance : Bool) (o : Option Span) → u ≡ t → v ≡ s → o ≡ up_to limit count (next_span u v q advance false) → o ≡ up_to limit count (next_span t s q advance false)
 over_same u t v s limit count q advance o et es e = rw (← et, ← es) e
 
-pub moved_same : (u t : PlainTree) (v s : List ℕ) (limit count : ℕ) (standing after : Standing) → u ≡ t → v ≡ s → after ≡ stands_behind (up_to limit count (next_span u v standing.place standing.advance false)) standing → after ≡ stands_behind (up_to limit count (next_span t s standing.place standing.advance false)) standing
-moved_same u t v s limit count standing after et es e = rw (← et, ← es) e
+pub moved_same : (u t : PlainTree) (v s : List ℕ) (limit count : ℕ) (next_start after : NextStart) → u ≡ t → v ≡ s → after ≡ start_after (up_to limit count (next_span u v next_start.place next_start.advance false)) next_start → after ≡ start_after (up_to limit count (next_span t s next_start.place next_start.advance false)) next_start
+moved_same u t v s limit count next_start after et es e = rw (← et, ← es) e
 
 -- behind a span the walk stands nearer to its end
-pub falls : (list : Replacement) (s : List ℕ) (t : PlainTree) (limit count : ℕ) (standing after : Standing) (place : ℕ) (was : List ℕ) (x : Span)
-    → Copied list s t limit count standing place was
-    → Some x ≡ up_to limit count (next_span t s standing.place standing.advance false)
-    → after ≡ stands_behind (up_to limit count (next_span t s standing.place standing.advance false)) standing
-    → turns s after.place after.advance + 1 ≤ turns s standing.place standing.advance
-falls list s t limit count standing after place was x k e moved =
-    let next = next_is s t limit count standing x e in
-    let f = next_follows t s standing.place standing.advance false x (omega (arith, k.place_is, k.within)) next.next in
-    let there = next_after s t limit count standing after x e moved in
-    let fall = turns_fall s standing.place standing.advance x f in
+pub falls : (list : Replacement) (s : List ℕ) (t : PlainTree) (limit count : ℕ) (next_start after : NextStart) (place : ℕ) (was : List ℕ) (x : Span)
+    → Copied list s t limit count next_start place was
+    → Some x ≡ up_to limit count (next_span t s next_start.place next_start.advance false)
+    → after ≡ start_after (up_to limit count (next_span t s next_start.place next_start.advance false)) next_start
+    → turns s after.place after.advance + 1 ≤ turns s next_start.place next_start.advance
+falls list s t limit count next_start after place was x k e moved =
+    let next = next_is s t limit count next_start x e in
+    let f = next_follows t s next_start.place next_start.advance false x (omega (arith, k.place_is, k.within)) next.next in
+    let there = next_after s t limit count next_start after x e moved in
+    let fall = turns_fall s next_start.place next_start.advance x f in
     rw there fall
 
 pub start_zero : (units : List ℕ) (n : ℕ) → start_of units 0 n ≡ 0
@@ -143,8 +143,8 @@ start_zero units n = at (ltb n 0) refl
     at true e = let h = ltb-true n 0 e in absurd (omega arith)
     at false e = omega arith
 
-pub standing_start : (r : Search) (standing : Standing) (units : List ℕ) (n : ℕ) → r.start ≡ start_of units 0 n → standing ≡ record { place = r.start; advance = false } → standing ≡ record { place = 0; advance = false }
-standing_start r standing units n e is = is ∙ ap (λ (p : ℕ). record { place = p; advance = false }) (e ∙ start_zero units n)
+pub standing_start : (r : Search) (next_start : NextStart) (units : List ℕ) (n : ℕ) → r.start ≡ start_of units 0 n → next_start ≡ record { place = r.start; advance = false } → next_start ≡ record { place = 0; advance = false }
+standing_start r next_start units n e is = is ∙ ap (λ (p : ℕ). record { place = p; advance = false }) (e ∙ start_zero units n)
 
 pub subject_start : (units s : List ℕ) (n : ℕ) → units ≡ s → n ≡ length s → take n units ≡ s
 subject_start units s n e is = rw (e, is) (take_all (length s) s (omega arith))

@@ -13,7 +13,7 @@ use Rattle.sre_match.specs.Matches.{Span, first_allowed, next_within, next_span,
 use Rattle.sre_match.specs.Members.{is_member}
 use Rattle.sre_match.specs.Paths.{paths}
 use Rattle.sre_match.specs.Rows.{a_or_ab, empty_star, star}
-use Rattle.sre_match.specs.Search.{start_of, stands_behind}
+use Rattle.sre_match.specs.Search.{start_of, start_after}
 
 -- a span without captures
 abbrev pub from_to : ℕ → ℕ → Span
@@ -119,7 +119,7 @@ after_two_bytes = refl
 pub past_the_subject : start_of (codes "aab") 2 1 ≡ 2
 past_the_subject = refl
 
-pub after_an_empty_span : stands_behind (Some (from_to 0 0)) (record { place = 0; advance = false }) ≡ record { place = 0; advance = true }
+pub after_an_empty_span : start_after (Some (from_to 0 0)) (record { place = 0; advance = false }) ≡ record { place = 0; advance = true }
 after_an_empty_span = refl
 
 -- `<`, group 1, `|`, group 2, `>`, where group 2 is unset

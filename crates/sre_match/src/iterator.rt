@@ -2,7 +2,7 @@
 
 ghost use Rattle.std.specs.Prelude.{◌≡◌, ◌≢◌, ◌≤◌, ◌+◌, false, true, Ok, IfOk, OnErr, [], OnOk};
 ghost use Rattle.sre_match.specs.Matches.{if_found};
-ghost use Rattle.sre_match.specs.Search.{Standing, stands_behind, walk_next, walk_reads};
+ghost use Rattle.sre_match.specs.Search.{NextStart, start_after, walk_next, walk_reads};
 
 use crate::error::MatchError;
 use crate::matcher::search::next_ends;
@@ -15,8 +15,8 @@ use std::alloc::Global;
 use std::marker::Model;
 use std::sync::ledger::Ledger;
 
-/// The spans of a request's subject, one after another: each the leftmost next from the end of the one
-/// before, where an empty outcome is passed over only there, and only after an empty span.
+/// The spans of a request's subject, from left to right. Each search begins at the end of the span
+/// before; after an empty span, and only there, an empty span is passed over.
 #[derive(Drop)]
 pub struct SearchIter<'c, S: StrDrive> {
     request: Request<'c, S>,
@@ -36,7 +36,7 @@ impl<'c, S: StrDrive> Model for SearchIter<'c, S> {
 
     ghost view = { λ w. record {
       search = w.request;
-      standing = record { place = place_of w.cursor w.request.start; advance = w.advance };
+      next_start = record { place = place_of w.cursor w.request.start; advance = w.advance };
       span = w.state;
     } };
 
@@ -51,8 +51,8 @@ impl<'c, S: StrDrive> SearchIter<'c, S> {
         requires whole { request.whole ≡ false }
         requires advance { request.advance ≡ false }
         ensures search { result.search ≡ request.entry }
-        ensures standing { let start = request.entry.start in
-            result.standing ≡ record { place = start; advance = false } }
+        ensures next_start { let start = request.entry.start in
+            result.next_start ≡ record { place = start; advance = false } }
         ensures span { result.span ≡ record { start = 0; stop = 0; marks = [] } }
     {
         SearchIter {
@@ -73,8 +73,8 @@ impl<'c, S: StrDrive> SearchIter<'c, S> {
         requires { S.counts L.name }
         ensures found { IfOk result (λ found. if_found found self.new.span ≡ walk_next self.old) }
         ensures moved { OnOk result
-            (self.new.standing ≡ stands_behind (walk_next self.old) self.old.standing) }
-        ensures refused { OnErr result (self.new.standing ≡ self.old.standing) }
+            (self.new.next_start ≡ start_after (walk_next self.old) self.old.next_start) }
+        ensures failed { OnErr result (self.new.next_start ≡ self.old.next_start) }
         ensures kept { result ≢ Ok true → self.new.span ≡ self.old.span }
         ensures search { self.new.search ≡ self.old.search }
         ensures cost { steps.new ≤ steps.old + walk_reads self.old }

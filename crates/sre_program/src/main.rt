@@ -4,7 +4,7 @@
 ghost use Rattle.std.specs.Prelude.{◌≡◌, ◌<◌};
 
 use py_base::Steps;
-use sre_commands::run;
+use sre_commands::{Ending, run, status_of};
 use std::alloc::Global;
 use std::io;
 use std::process::ExitCode;
@@ -30,8 +30,10 @@ fn run_counted<S: py_base::Source, K: py_base::Sink, L: Ledger>(
 fn main(rt: HostRuntime) -> ExitCode {
     let arguments = match arguments(&rt) {
         Ok(arguments) => arguments,
-        Err(error) if error.kind() == io::ErrorKind::OutOfMemory => return ExitCode::from(6),
-        Err(_) => return ExitCode::from(2),
+        Err(error) if error.kind() == io::ErrorKind::OutOfMemory => {
+            return ExitCode::from(status_of(Ending::NoMemory));
+        }
+        Err(_) => return ExitCode::from(status_of(Ending::NoCommand)),
     };
     let mut source = StdSource::new(rt.stdin());
     let mut sink = StdSink::new(rt.stdout());

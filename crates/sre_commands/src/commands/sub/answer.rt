@@ -3,7 +3,7 @@
 ghost use Rattle.std.specs.Prelude.{◌≡◌, ◌++◌, ◌+◌, List, ℕ, false, true, length, IfOk, OnOk, string_bytes, encode_utf8_all};
 ghost use Rattle.std.specs.Str.{all_scalars};
 ghost use Rattle.sre_match.specs.Matches.{if_found, spans};
-ghost use Rattle.sre_match.specs.Search.{stands_behind, walk_next};
+ghost use Rattle.sre_match.specs.Search.{start_after, walk_next};
 ghost use Rattle.sre_match.specs.Filling.{result_of};
 ghost use Rattle.sre_commands.specs.Commands.Sub.Request.{IsRequest, request_of};
 ghost use Rattle.sre_commands.specs.Commands.Sub.Template.{replacement_of};
@@ -35,7 +35,7 @@ fn has_next<'c, S: StrDrive, L: Ledger>(
     ensures found { let next = up_to limit count (walk_next walk.old) in
         IfOk result (λ found. if_found found walk.new.span ≡ next) }
     ensures moved { let next = up_to limit count (walk_next walk.old) in
-        OnOk result (walk.new.standing ≡ stands_behind next walk.old.standing) }
+        OnOk result (walk.new.next_start ≡ start_after next walk.old.next_start) }
     ensures search { walk.new.search ≡ walk.old.search }
 {
     if is_reached(limit, count) {
