@@ -4,7 +4,7 @@ ghost use Rattle.std.specs.Prelude.{◌≡◌, ◌<◌};
 
 use py_base::Steps;
 use sre_code::{Checked, decode};
-use sre_match::{MatchError, PlaceView, Request, State, StrDrive};
+use sre_match::{MatchError, PlaceView, Request, State};
 use std::alloc::Global;
 use std::marker::Brand;
 use std::sync::ledger::{Blank, Ledger};
@@ -79,13 +79,9 @@ fn request<'c>(
     let whole = allowed == Allowed::ToTheEnd;
     let mut request = Request::new(view, part.0, part.1, code, whole);
     if allowed == Allowed::NotEmptyAtTheStart {
-        forbid_empty(&mut request);
+        request.set_must_advance(true);
     }
     request
-}
-
-fn forbid_empty<S: StrDrive>(request: &mut Request<'_, S>) {
-    request.must_advance = true;
 }
 
 // A code, a subject, the part of it that is searched, and what `match` and `search` find in CPython.
