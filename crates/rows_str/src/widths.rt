@@ -6,29 +6,30 @@ use py_str::StrMore;
 use py_text::PyStr;
 use std::alloc::Global;
 
-// A text, a width, a fill, and what `center`, `ljust` and `rjust` give; none where the fill is not
-// one code point.
-const PADDINGS: [(&str, isize, Option<&str>, Option<[&str; 3]>); 11] = [
-    ("ab", 5, None, Some(["  ab ", "ab   ", "   ab"])),
-    ("abc", 4, None, Some(["abc ", "abc ", " abc"])),
-    ("ab", 4, None, Some([" ab ", "ab  ", "  ab"])),
-    ("a", 4, Some("é"), Some(["éaéé", "aééé", "éééa"])),
-    ("é", 2, Some("*"), Some(["é*", "é*", "*é"])),
-    ("abc", 2, None, Some(["abc", "abc", "abc"])),
-    ("ab", -3, None, Some(["ab", "ab", "ab"])),
-    ("", 3, Some("-"), Some(["---", "---", "---"])),
-    ("ab", 5, Some(""), None),
-    ("ab", 5, Some("--"), None),
-    ("ab", 1, Some("--"), None),
+// A text, a width, a fill, and what `center`, `ljust` and `rjust` give.
+const PADDINGS: [(&str, isize, Option<&str>, [&str; 3]); 8] = [
+    ("ab", 5, None, ["  ab ", "ab   ", "   ab"]),
+    ("abc", 4, None, ["abc ", "abc ", " abc"]),
+    ("ab", 4, None, [" ab ", "ab  ", "  ab"]),
+    ("a", 4, Some("é"), ["éaéé", "aééé", "éééa"]),
+    ("é", 2, Some("*"), ["é*", "é*", "*é"]),
+    ("abc", 2, None, ["abc", "abc", "abc"]),
+    ("ab", -3, None, ["ab", "ab", "ab"]),
+    ("", 3, Some("-"), ["---", "---", "---"]),
 ];
 
-// The text padded by `center`, `ljust` and `rjust`.
-fn padded(alloc: Global, text: &PyStr, width: isize, fill: Option<&PyStr>) -> PyResult<[PyStr; 3]> {
-    Ok([
-        text.center(alloc, width, fill)?,
-        text.ljust(alloc, width, fill)?,
-        text.rjust(alloc, width, fill)?,
-    ])
+// Whether `center`, `ljust` and `rjust` of the text give what is wanted.
+fn are_padded(
+    alloc: Global,
+    text: &PyStr,
+    width: isize,
+    fill: Option<&PyStr>,
+    wanted: [&str; 3],
+) -> PyResult<bool> {
+    let center = text.center(alloc, width, fill)?;
+    let left = text.ljust(alloc, width, fill)?;
+    let right = text.rjust(alloc, width, fill)?;
+    Ok([center.as_str(), left.as_str(), right.as_str()] == wanted)
 }
 
 // Whether the text is padded as wanted.
@@ -37,15 +38,11 @@ fn is_padded(
     text: &str,
     width: isize,
     fill: Option<&str>,
-    wanted: Option<[&str; 3]>,
+    wanted: [&str; 3],
 ) -> PyResult<bool> {
     let text = PyStr::copy_of(alloc, text)?;
     let fill = copied(alloc, fill)?;
-    Ok(match (padded(alloc, &text, width, fill.as_ref()), wanted) {
-        (Ok([a, b, c]), Some(wanted)) => [a.as_str(), b.as_str(), c.as_str()] == wanted,
-        (Err(error), None) => error == PyError::FillChar,
-        _ => false,
-    })
+    are_padded(alloc, &text, width, fill.as_ref(), wanted)
 }
 
 #[test]
@@ -55,6 +52,29 @@ fn paddings(rt: HostRuntime) -> Result<(), PyError> {
             is_padded(rt.alloc(), text, *width, *fill, *wanted)?,
             "{text} {width}"
         );
+    }
+    Ok(())
+}
+
+// A width, and a fill that is not one code point.
+const NO_FILLS: [(isize, &str); 4] = [(5, ""), (5, "--"), (1, "--"), (-1, "")];
+
+// Whether each padding of a text of two with the fill fails.
+fn is_no_fill(alloc: Global, width: isize, fill: &str) -> PyResult<bool> {
+    let text = PyStr::copy_of(alloc, "ab")?;
+    let fill = copied(alloc, Some(fill))?;
+    let fill = fill.as_ref();
+    Ok(
+        matches!(text.center(alloc, width, fill), Err(PyError::FillChar))
+            && matches!(text.ljust(alloc, width, fill), Err(PyError::FillChar))
+            && matches!(text.rjust(alloc, width, fill), Err(PyError::FillChar)),
+    )
+}
+
+#[test]
+fn no_fills(rt: HostRuntime) -> Result<(), PyError> {
+    for (width, fill) in &NO_FILLS {
+        assert!(rt; is_no_fill(rt.alloc(), *width, fill)?, "{fill} {width}");
     }
     Ok(())
 }
