@@ -1,14 +1,15 @@
 -- Laws of stripped, padded, expanded and encoded texts.
 use Rattle.std.proofs.Common.{◌≡◌, ◌∙◌, ◌+◌, ◌-◌, ◌/◌, ◌%◌, ◌≤◌, ◌==◌, ℕ, zero, suc, Bool, true, false, ◌&&◌, ◌||◌, nat_eq, if◌then◌else◌, List, [], ◌∷◌, ◌++◌, length, reverse, sym, ap, refl, append-nil, arith, length-append, chars}
-use Rattle.std.specs.List.{list_any}
+use Rattle.std.specs.List.{list_any, list_all}
+use Rattle.std.proofs.lemmas.List.Folds.{list_all-append}
 use Rattle.std.proofs.lemmas.Bool.Decides.{nat_tests}
 use Rattle.std.proofs.lemmas.List.{reverse-append, reverse-reverse}
 use Rattle.std.proofs.lemmas.Str.{chars-encodes}
 use Rattle.py_base.specs.Chars.Whitespace.{skip_while, trim_end}
-use Rattle.py_str.specs.Laws.{NoneAtTheEnds, FillsTheWidth, PaddingsFillTheWidth, ZerosFillTheWidth, NoTabIsLeft, EncodedIsDecoded}
+use Rattle.py_str.specs.Laws.{NoneAtTheEnds, StripsOnlyWhatPasses, FillsTheWidth, PaddingsFillTheWidth, ZerosFillTheWidth, NoTabIsLeft, EncodedIsDecoded}
 use Rattle.py_str.specs.Pad.{run, short_by, left_part, center, ljust, rjust, is_sign, sign_parts}
 use Rattle.py_str.specs.Tabs.{gap, column_after, expanded_at}
-use Rattle.py_str.proofs.TabLemmas.{run_length}
+use Rattle.py_str.proofs.TabsLemmas.{run_length}
 
 -- stripped texts
 abbrev head_of : List ℕ → ℕ
@@ -57,6 +58,55 @@ pub none_at_ends : NoneAtTheEnds
 none_at_ends = λ test cs. record {
   first = λ c rest e. first_case test cs (skip_while test cs) refl c rest e;
   last = λ front c e. last_fails test (skip_while test cs) front c e;
+}
+
+abbrev passing : (ℕ → Bool) → List ℕ → List ℕ
+passing test [] = []
+passing test (c ∷ cs) = if test c then c ∷ passing test cs else []
+
+split_case : (test : ℕ → Bool) (c : ℕ) (cs : List ℕ) (b : Bool) → passing test cs ++ skip_while test cs ≡ cs
+    → (if b then c ∷ passing test cs else []) ++ (if b then skip_while test cs else c ∷ cs) ≡ c ∷ cs
+split_case test c cs true more = ap (λ (l : List ℕ). c ∷ l) more
+split_case test c cs false more = refl
+
+split_there : (test : ℕ → Bool) (cs : List ℕ) → passing test cs ++ skip_while test cs ≡ cs
+split_there test [] = refl
+split_there test (c ∷ cs) = split_case test c cs (test c) (split_there test cs)
+
+pass_case : (test : ℕ → Bool) (c : ℕ) (cs : List ℕ) (b : Bool) → test c ≡ b → list_all test (passing test cs) ≡ true
+    → list_all test (if b then c ∷ passing test cs else []) ≡ true
+pass_case test c cs true h more = ap (λ (b : Bool). b && list_all test (passing test cs)) h ∙ more
+pass_case test c cs false h more = refl
+
+all_pass : (test : ℕ → Bool) (cs : List ℕ) → list_all test (passing test cs) ≡ true
+all_pass test [] = refl
+all_pass test (c ∷ cs) = pass_case test c cs (test c) refl (all_pass test cs)
+
+swapped : (a b : Bool) → (b && (a && true)) ≡ (a && b)
+swapped true true = refl
+swapped true false = refl
+swapped false true = refl
+swapped false false = refl
+
+all_reversed : (test : ℕ → Bool) (xs : List ℕ) → list_all test (reverse xs) ≡ list_all test xs
+all_reversed test [] = refl
+all_reversed test (x ∷ xs) =
+    ap (list_all test) (reverse-append (x ∷ []) xs) ∙ list_all-append test (reverse xs) (x ∷ [])
+    ∙ ap (λ (b : Bool). b && list_all test (x ∷ [])) (all_reversed test xs) ∙ swapped (test x) (list_all test xs)
+
+-- a list is what is left of it without its end, and the end
+end_there : (test : ℕ → Bool) (s : List ℕ) → s ≡ trim_end test s ++ reverse (passing test (reverse s))
+end_there test s =
+    sym (reverse-reverse s) ∙ ap reverse (sym (split_there test (reverse s)))
+    ∙ reverse-append (passing test (reverse s)) (skip_while test (reverse s))
+
+pub only_what_passes : StripsOnlyWhatPasses
+only_what_passes = λ test cs. record {
+  front = passing test cs;
+  back = reverse (passing test (reverse (skip_while test cs)));
+  parts = sym (split_there test cs) ∙ ap (λ (l : List ℕ). passing test cs ++ l) (end_there test (skip_while test cs));
+  front_passes = all_pass test cs;
+  back_passes = all_reversed test (passing test (reverse (skip_while test cs))) ∙ all_pass test (reverse (skip_while test cs));
 }
 
 -- padded texts

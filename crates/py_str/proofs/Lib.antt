@@ -1,8 +1,8 @@
-pub mod JoinLemmas
 pub mod LawLemmas
+pub mod PadLemmas
 pub mod PassingLemmas
 pub mod PrintableLemmas
+pub mod PushingLemmas
 pub mod QuoteLemmas
-pub mod SignLemmas
-pub mod TabLemmas
-pub mod TitleLemmas
+pub mod TabsLemmas
+pub mod TestsOfLemmas

@@ -1,6 +1,6 @@
 -- Laws of stripped, padded, expanded and encoded texts.
 use Rattle.std.specs.Prelude.{◌≡◌, ◌≤◌, ◌==◌, ℕ, Bool, true, false, List, [], ◌∷◌, ◌++◌, length, encode_utf8_all, IsUtf8}
-use Rattle.std.specs.List.{list_any}
+use Rattle.std.specs.List.{list_any, list_all}
 use Rattle.std.specs.Str.{all_scalars}
 use Rattle.py_base.specs.Chars.Whitespace.{trim}
 use Rattle.py_str.specs.Codec.{IsDecoded}
@@ -15,6 +15,18 @@ pub record FailAtTheEnds (test : ℕ → Bool) (cs : List ℕ) : Type 0 where
 -- a stripped text neither begins nor ends with what is stripped
 abbrev pub NoneAtTheEnds : Type 0
 NoneAtTheEnds = (test : ℕ → Bool) (cs : List ℕ) → FailAtTheEnds test (trim test cs)
+
+-- a text made of another by taking away, before it and after it, what passes a test
+pub record IsCutFrom (test : ℕ → Bool) (cs made : List ℕ) : Type 0 where
+  pub front : List ℕ
+  pub back : List ℕ
+  pub parts : cs ≡ front ++ (made ++ back)
+  pub front_passes : list_all test front ≡ true
+  pub back_passes : list_all test back ≡ true
+
+-- a stripped text is cut from the text so
+abbrev pub StripsOnlyWhatPasses : Type 0
+StripsOnlyWhatPasses = (test : ℕ → Bool) (cs : List ℕ) → IsCutFrom test cs (trim test cs)
 
 -- a text made of another: as long as the width where the other is not longer, and else the other
 pub record FillsTheWidth (width : ℕ) (cs made : List ℕ) : Type 0 where

@@ -1,6 +1,6 @@
 use Rattle.std.proofs.Common.{◌∙◌, sym, ap, subst, encode_utf8_all, IsUtf8}
 use Rattle.std.proofs.lemmas.Str.{encodes-chars}
-use Rattle.py_str.proofs.JoinLemmas.{if_ok}
+use Rattle.py_str.proofs.PushingLemmas.{if_ok}
 use Rattle.py_str.proofs.codec.decode.Goals as goal
 
 pub returns-in-Ok-clause-ok : goal.returns-in-Ok-clause-ok

@@ -1,5 +1,5 @@
 use Rattle.std.proofs.Common.{◌∙◌, sym}
-use Rattle.py_str.proofs.SignLemmas.{sign_yes}
+use Rattle.py_str.proofs.PadLemmas.{sign_yes}
 use Rattle.py_str.proofs.pad.after_sign.Goals as goal
 
 pub returns-then-is_sign : goal.returns-then-is_sign

@@ -1,6 +1,6 @@
 use Rattle.std.proofs.Common.{rules, ◌≡◌, ◌∙◌, [], ap, chars, string_bytes}
 use Rattle.std.proofs.lemmas.Str.{chars-nil}
-use Rattle.py_str.proofs.JoinLemmas.{padded_is}
+use Rattle.py_str.proofs.PushingLemmas.{padded_is}
 use Rattle.py_str.proofs.pad.padded.Goals as goal
 
 pub returns-clause-ok : goal.returns-clause-ok

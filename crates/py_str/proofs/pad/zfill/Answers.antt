@@ -3,8 +3,8 @@ use Rattle.std.specs.Int.{w64}
 use Rattle.std.proofs.lemmas.Int.{to_z-of_z}
 use Rattle.std.proofs.lemmas.Str.{chars-nil}
 use Rattle.py_str.specs.Pad.{width_of}
-use Rattle.py_str.proofs.JoinLemmas.{made_is}
-use Rattle.py_str.proofs.SignLemmas.{zeros_are}
+use Rattle.py_str.proofs.PushingLemmas.{made_is}
+use Rattle.py_str.proofs.PadLemmas.{zeros_are}
 use Rattle.py_str.proofs.pad.zfill.Goals as goal
 
 pub returns-clause-ok : goal.returns-clause-ok

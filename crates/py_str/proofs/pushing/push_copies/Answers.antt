@@ -1,6 +1,6 @@
 use Rattle.std.proofs.Common.{sym, append-nil, chars}
 use Rattle.py_str.specs.Pushing.{points}
-use Rattle.py_str.proofs.JoinLemmas.{copy_more}
+use Rattle.py_str.proofs.PushingLemmas.{copy_more}
 use Rattle.py_str.proofs.pushing.push_copies.Goals as goal
 
 pub loop-n-init : goal.loop-n-init

@@ -1,5 +1,5 @@
 use Rattle.std.proofs.Common.{sym, chars, string_bytes, append-nil}
-use Rattle.py_str.proofs.JoinLemmas.{run_more}
+use Rattle.py_str.proofs.PushingLemmas.{run_more}
 use Rattle.py_str.proofs.pushing.push_few.Goals as goal
 
 pub loop-n-init : goal.loop-n-init

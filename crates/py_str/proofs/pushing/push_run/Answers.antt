@@ -1,7 +1,7 @@
 use Rattle.std.proofs.Common.{◌≡◌, ◌∙◌, ◌/◌, ◌%◌, [], ap, arith, chars, rules, string_bytes}
 use Rattle.std.proofs.lemmas.Str.{chars-nil}
 use Rattle.py_str.specs.Pushing.{points}
-use Rattle.py_str.proofs.JoinLemmas.{blocks_pushed}
+use Rattle.py_str.proofs.PushingLemmas.{blocks_pushed}
 use Rattle.py_str.proofs.pushing.push_run.Goals as goal
 
 pub returns-clause-ok : goal.returns-clause-ok

@@ -1,4 +1,4 @@
-use Rattle.py_str.proofs.JoinLemmas.{two_pushed}
+use Rattle.py_str.proofs.PushingLemmas.{two_pushed}
 use Rattle.py_str.proofs.quote.push_escape.Goals as goal
 
 pub returns-clause-ok : goal.returns-clause-ok

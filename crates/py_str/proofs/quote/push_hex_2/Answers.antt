@@ -1,4 +1,4 @@
-use Rattle.py_str.proofs.JoinLemmas.{digits_pushed}
+use Rattle.py_str.proofs.PushingLemmas.{digits_pushed}
 use Rattle.py_str.proofs.quote.push_hex_2.Goals as goal
 
 pub returns-clause-ok : goal.returns-clause-ok

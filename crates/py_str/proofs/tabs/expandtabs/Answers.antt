@@ -4,7 +4,7 @@ use Rattle.std.proofs.lemmas.Int.{to_z-of_z}
 use Rattle.std.proofs.lemmas.Str.{chars-nil}
 use Rattle.py_str.specs.Pad.{width_of}
 use Rattle.py_str.specs.Tabs.{expanded}
-use Rattle.py_str.proofs.JoinLemmas.{made_is}
+use Rattle.py_str.proofs.PushingLemmas.{made_is}
 use Rattle.py_str.proofs.tabs.expandtabs.Goals as goal
 
 pub returns-clause-ok : goal.returns-clause-ok

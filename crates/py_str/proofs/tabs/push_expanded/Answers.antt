@@ -1,7 +1,7 @@
 use Rattle.std.proofs.Common.{◌≡◌, ◌<◌, ◌^◌, refl, rules, arith, length, chars, string_bytes}
 use Rattle.std.proofs.lemmas.Str.{chars_from_encodes, IsUtf8-string_bytes}
 use Rattle.py_text.proofs.PointLemmas.{points_at_most}
-use Rattle.py_str.proofs.TabLemmas.{expanding_more, expanding_ends, front_within}
+use Rattle.py_str.proofs.TabsLemmas.{expanding_more, expanding_ends, front_within}
 use Rattle.py_str.proofs.tabs.push_expanded.Goals as goal
 
 pub runs-init : goal.runs-init

@@ -1,7 +1,7 @@
 use Rattle.std.proofs.Common.{◌≡◌, ◌<◌, ◌^◌, arith, rules, ap, chars, string_bytes, length}
 use Rattle.std.proofs.lemmas.Str.{IsUtf8-string_bytes}
 use Rattle.py_text.proofs.PointLemmas.{points_at_most}
-use Rattle.py_str.proofs.TabLemmas.{column_within}
+use Rattle.py_str.proofs.TabsLemmas.{column_within}
 use Rattle.py_str.proofs.tabs.push_stop.Goals as goal
 
 pub overflow_add-result : goal.overflow_add-result

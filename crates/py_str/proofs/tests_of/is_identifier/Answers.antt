@@ -1,7 +1,7 @@
 use Rattle.std.proofs.Common.{◌∙◌, sym, ap, chars, true}
 use Rattle.std.specs.List.{list_all}
 use Rattle.py_base.specs.Chars.Classes.{is_id_continue}
-use Rattle.py_str.proofs.TitleLemmas.{identifier_is}
+use Rattle.py_str.proofs.TestsOfLemmas.{identifier_is}
 use Rattle.py_str.proofs.tests_of.is_identifier.Goals as goal
 
 pub returns-then-is_id_start : goal.returns-then-is_id_start

@@ -2,7 +2,7 @@ use Rattle.std.proofs.Common.{◌∙◌, sym, ap, chars}
 use Rattle.std.proofs.lemmas.Str.{IsUtf8-past_char}
 use Rattle.std.specs.Str.Iter.{chars_rest}
 use Rattle.py_str.specs.TestsOf.{titled}
-use Rattle.py_str.proofs.TitleLemmas.{titled_more, titled_stops, titled_ends}
+use Rattle.py_str.proofs.TestsOfLemmas.{titled_more, titled_stops, titled_ends}
 use Rattle.py_str.proofs.tests_of.is_titled.Goals as goal
 
 pub chars-preserved : goal.chars-preserved
