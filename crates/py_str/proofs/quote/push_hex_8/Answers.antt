@@ -1,0 +1,5 @@
+use Rattle.py_str.proofs.PushingLemmas.{two_pushed}
+use Rattle.py_str.proofs.quote.push_hex_8.Goals as goal
+
+pub returns-clause-ok : goal.returns-clause-ok
+returns-clause-ok c = two_pushed _ _ _ _ _ c.in_ok-push_hex_4.ensures.ok c.in_ok-push_hex_4-2.ensures.ok

@@ -1,0 +1,10 @@
+pub mod ClassRows
+pub mod Codec
+pub mod Laws
+pub mod Pad
+pub mod Pushing
+pub mod Quote
+pub mod Rows
+pub mod Strip
+pub mod Tabs
+pub mod TestsOf
