@@ -130,8 +130,8 @@ impl MaybeInternedString for &PyStr {
     }
 }
 
-/// A text as the key of a map: equal and hashed by its code points, and lent as a `str`. Contracts
-/// see the list of its code points.
+/// A text as the key of a map: equal and hashed by its code points, and borrowed as a `str`.
+/// Contracts see the list of its code points.
 #[derive(Debug, Drop)]
 pub struct CachedPyStrRef {
     text: PyStr,

@@ -1,4 +1,4 @@
-//! Handles and texts as keys: compared, hashed, and lent as a `str`.
+//! Handles and texts as keys: compared, hashed, and borrowed as a `str`.
 
 use py_base::PyError;
 use py_intern::{CachedPyStrRef, MaybeInternedString, StringPool};
@@ -25,8 +25,8 @@ fn handles(rt: HostRuntime) -> Result<(), PyError> {
     Ok(())
 }
 
-// The text that a key lends, by the bound alone.
-fn lent<S: AsStr>(key: &S) -> &str {
+// The text of a key, borrowed by the bound alone.
+fn borrowed<S: AsStr>(key: &S) -> &str {
     key.as_str()
 }
 
@@ -38,7 +38,7 @@ fn cached(rt: HostRuntime) -> Result<(), PyError> {
         CachedPyStrRef::new(PyStr::copy_of(rt.alloc(), "ae")?),
     );
     assert_eq!(rt;
-        (lent(&key), key == same, key == other),
+        (borrowed(&key), key == same, key == other),
         ("aé", true, false)
     );
     let mut set = HashSet::new(rt.alloc());
