@@ -3,7 +3,7 @@
 --     pair_again a b x = reads _ (the first part) (passes _ (why the test is passed) (it (an equation)))
 -- skips is for a test that is not passed, spelled where the input is written otherwise, done for a last line that computes.
 use Rattle.std.proofs.Common.{◌≡◌, refl, sym, ap, ◌∙◌, ℕ, Bool, true, false, List, [], ◌∷◌, ◌++◌, length, take, drop, arith, length-append}
-use Rattle.std.specs.Prelude.{Option, Some, None, Ok, ◌==◌, nat_lt, if◌then◌else◌}
+use Rattle.std.specs.Prelude.{Option, Some, None, Ok, nat_lt, if◌then◌else◌}
 use Rattle.std.proofs.Math.Seq.{take-append_seam, drop-append_seam}
 use Rattle.std.proofs.lemmas.Bool.{ne_eqb, le-ltb}
 use Rattle.py_base.specs.Reading.{Read, ◌and_then◌, read_one, read_many, find, read_found, read_by}

@@ -2,8 +2,8 @@
 -- Each proof follows its reader line by line, and binds the fact of each step:
 --     a_pair ws = then_holds (one_holds _ ws) λ a x p. then_holds (one_holds _ x) λ b y q. ok (the fact, from p and q)
 -- check is for a last line `if test then Ok .. else Err ..`, guard for a line `if test then Err .. else`, table_holds for read_found.
-use Rattle.std.proofs.Common.{◌≡◌, refl, sym, ap, subst, ℕ, Bool, true, false, List, [], ◌∷◌, ◌++◌, ◌≤◌, length, take, drop, arith}
-use Rattle.std.specs.Prelude.{Result, Ok, Err, IfOk, if◌then◌else◌, Option, Some, None, ◌==◌, nat_lt}
+use Rattle.std.proofs.Common.{◌≡◌, refl, sym, ap, subst, ℕ, Bool, true, false, List, [], ◌∷◌, ◌++◌, ◌≤◌, length, drop, arith}
+use Rattle.std.specs.Prelude.{Ok, Err, IfOk, if◌then◌else◌, Option, Some, ◌==◌, nat_lt}
 use Rattle.std.proofs.lemmas.Bool.{eqb-true, ltb-false}
 use Rattle.std.proofs.lemmas.List.{length-take, take-append-drop}
 use Rattle.py_base.specs.Reading.{Read, ◌and_then◌, read_one, read_many, is_next, find, read_found}

@@ -1,7 +1,10 @@
 -- How a text or bytes are quoted.
-use Rattle.std.specs.Prelude.{ℕ, Bool, not, ◌&&◌, ◌||◌, ◌==◌, ◌/◌, ◌%◌, nat_lt, if◌then◌else◌, List, [], ◌∷◌, ◌++◌, codes, flat_map}
+use Rattle.std.specs.Prelude.{ℕ, Bool, not, ◌&&◌, ◌||◌, ◌==◌, ◌/◌, ◌%◌, nat_lt, if◌then◌else◌, List, [], ◌∷◌, ◌++◌, codes, flat_map, encode_utf8_all, Result}
 use Rattle.std.specs.List.{list_any}
 use Rattle.std.specs.Char.{digit_char}
+use Rattle.std.specs.Fmt.{WritesOnOk}
+use Rattle.std.specs.declared.fmt.Formatter.{Formatter}
+use Rattle.std.specs.declared.fmt.Error.{Error}
 use Rattle.py_base.specs.Chars.Classes.{between, is_printable}
 
 -- `"` where the text holds `'` and no `"`, else `'`
@@ -46,6 +49,13 @@ within quote plain t = quote ∷ (quoted_chars quote plain t ++ quote ∷ [])
 abbrev pub quoted : (ℕ → Bool) → List ℕ → List ℕ
 quoted plain t = within (quote_of t) plain t
 
+-- the characters of a text, and those with the quotes around them
+abbrev pub text_chars : ℕ → List ℕ → List ℕ
+text_chars quote t = quoted_chars quote is_printable t
+
+abbrev pub text_within : ℕ → List ℕ → List ℕ
+text_within quote t = within quote is_printable t
+
 -- `repr` of a text
 abbrev pub text_repr : List ℕ → List ℕ
 text_repr t = quoted is_printable t
@@ -54,6 +64,17 @@ text_repr t = quoted is_printable t
 abbrev pub is_plain_byte : ℕ → Bool
 is_plain_byte b = between 0x20 0x7E b
 
+-- the characters of bytes, and those with the quotes around them
+abbrev pub bytes_chars : ℕ → List ℕ → List ℕ
+bytes_chars quote bs = quoted_chars quote is_plain_byte bs
+
+abbrev pub bytes_within : ℕ → List ℕ → List ℕ
+bytes_within quote bs = within quote is_plain_byte bs
+
 -- `repr` of bytes
 abbrev pub bytes_repr : List ℕ → List ℕ
 bytes_repr bs = 98 ∷ quoted is_plain_byte bs
+
+-- the formatter has written a text, as its UTF-8 bytes, where the result is Ok
+abbrev pub WritesText : {W : Type 0} → (W → List ℕ → W → Type 0) → Formatter W → Result (Unit {0}) Error → List ℕ → Formatter W → Type 0
+WritesText gives before result text after = WritesOnOk gives before result (encode_utf8_all text) after

@@ -3,7 +3,8 @@ use Rattle.std.specs.Prelude.{ℕ, ◌-◌, ◌^◌, ◌==◌, ◌&&◌, nat_lt,
 use Rattle.std.specs.List.{list_any}
 use Rattle.py_base.specs.Counts.{one_more}
 
--- a source: the bytes that are left, the numbers of the calls that fail, how many bytes one call gives at most, how many calls were made, and how many failed
+-- a source: the bytes that are left, the numbers of the calls that fail, how many bytes one call
+-- gives at most, how many calls were made, and how many failed
 pub record Store : Type 0 where
   pub bytes : List ℕ
   pub fails : List ℕ
@@ -20,13 +21,23 @@ pub record Room : Type 0 where
   pub calls : ℕ
   pub faults : ℕ
 
--- whether the call after so many calls fails: its number is one of those that fail, and not the last one of the type
+abbrev pub store_of : List ℕ → List ℕ → ℕ → ℕ → ℕ → Store
+store_of bytes fails most calls faults =
+    record { bytes = bytes; fails = fails; most = most; calls = calls; faults = faults }
+
+abbrev pub room_of : List ℕ → ℕ → List ℕ → ℕ → ℕ → ℕ → Room
+room_of held room fails most calls faults =
+    record { held = held; room = room; fails = fails; most = most; calls = calls; faults = faults }
+
+-- whether the call after so many calls fails: its number is one of those that fail, and not the last
+-- one of the type
 abbrev pub fails_after : List ℕ → ℕ → Bool
-fails_after fails calls = nat_lt (one_more calls) (2 ^ 64 - 1) && list_any (λ n. n == one_more calls) fails
+fails_after fails calls =
+    nat_lt (one_more calls) (2 ^ 64 - 1) && list_any (λ n. n == one_more calls) fails
 
 -- a source of which no call was made
 abbrev pub new_store : List ℕ → List ℕ → ℕ → Store
-new_store bytes fails most = record { bytes = bytes; fails = fails; most = most; calls = 0; faults = 0 }
+new_store bytes fails most = store_of bytes fails most 0 0
 
 -- how many bytes a call gives that has room for n
 abbrev pub read_count : Store → ℕ → ℕ
@@ -48,7 +59,7 @@ after_read s n = record {
 
 -- a sink that holds nothing
 abbrev pub new_room : ℕ → List ℕ → ℕ → Room
-new_room room fails most = record { held = []; room = room; fails = fails; most = most; calls = 0; faults = 0 }
+new_room room fails most = room_of [] room fails most 0 0
 
 -- how many of n bytes a call takes
 abbrev pub write_count : Room → ℕ → ℕ
@@ -65,10 +76,15 @@ is_stuck s n = write_count s n == 0 && not (n == 0)
 -- a call that fails, or that takes nothing of a piece, raises the count of faults
 abbrev pub after_write : Room → List ℕ → Room
 after_write s piece = record {
-  held = if fails_after s.fails s.calls then s.held else s.held ++ take (write_count s (length piece)) piece;
+  held =
+      if fails_after s.fails s.calls then s.held
+      else s.held ++ take (write_count s (length piece)) piece;
   room = s.room;
   fails = s.fails;
   most = s.most;
   calls = one_more s.calls;
-  faults = if fails_after s.fails s.calls then one_more s.faults else if is_stuck s (length piece) then one_more s.faults else s.faults;
+  faults =
+      if fails_after s.fails s.calls then one_more s.faults
+      else if is_stuck s (length piece) then one_more s.faults
+      else s.faults;
 }

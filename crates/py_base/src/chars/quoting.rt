@@ -1,11 +1,10 @@
 //! How a text or bytes are written in quotes, as `repr` writes them.
 
-ghost use Rattle.std.specs.Prelude.{◌≡◌, ◌==◌, ◌<◌, ◌∷◌, [], chars, encode_utf8_all};
+ghost use Rattle.std.specs.Prelude.{◌≡◌, ◌==◌, ◌<◌, ◌∷◌, [], chars};
 ghost use Rattle.std.specs.List.{list_any};
 ghost use Rattle.std.specs.Char.{digit_char};
-ghost use Rattle.std.specs.Fmt.{WritesOnOk};
-ghost use Rattle.py_base.specs.Chars.Classes.{is_printable};
 ghost use Rattle.py_base.specs.Chars.Quoting as spec;
+ghost use Rattle.py_base.specs.Chars.Quoting.{WritesText, text_chars, text_within, bytes_chars, bytes_within};
 
 use crate::chars::classes::is_printable;
 use std::fmt::{self, Formatter, Write};
@@ -19,7 +18,7 @@ fn hex_digit(digit: u32) -> char
 
 fn write_hex_2<W: Write>(f: &mut Formatter<W>, code: u32) -> fmt::Result
     requires { code < 256 }
-    ensures { WritesOnOk W.write_str_gives f.old result (encode_utf8_all (spec.hex_2 code)) f.new }
+    ensures { WritesText W.write_str_gives f.old result (spec.hex_2 code) f.new }
 {
     f.write_char(hex_digit(code / 16))?;
     f.write_char(hex_digit(code % 16))
@@ -27,14 +26,14 @@ fn write_hex_2<W: Write>(f: &mut Formatter<W>, code: u32) -> fmt::Result
 
 fn write_hex_4<W: Write>(f: &mut Formatter<W>, code: u32) -> fmt::Result
     requires { code < 65536 }
-    ensures { WritesOnOk W.write_str_gives f.old result (encode_utf8_all (spec.hex_4 code)) f.new }
+    ensures { WritesText W.write_str_gives f.old result (spec.hex_4 code) f.new }
 {
     write_hex_2(f, code / 256)?;
     write_hex_2(f, code % 256)
 }
 
 fn write_hex_8<W: Write>(f: &mut Formatter<W>, code: u32) -> fmt::Result
-    ensures { WritesOnOk W.write_str_gives f.old result (encode_utf8_all (spec.hex_8 code)) f.new }
+    ensures { WritesText W.write_str_gives f.old result (spec.hex_8 code) f.new }
 {
     write_hex_4(f, code / 65536)?;
     write_hex_4(f, code % 65536)
@@ -42,14 +41,14 @@ fn write_hex_8<W: Write>(f: &mut Formatter<W>, code: u32) -> fmt::Result
 
 // A backslash and a letter.
 fn write_escape<W: Write>(f: &mut Formatter<W>, letter: char) -> fmt::Result
-    ensures { WritesOnOk W.write_str_gives f.old result (encode_utf8_all (92 ∷ letter ∷ [])) f.new }
+    ensures { WritesText W.write_str_gives f.old result (92 ∷ letter ∷ []) f.new }
 {
     f.write_char('\\')?;
     f.write_char(letter)
 }
 
 fn write_number<W: Write>(f: &mut Formatter<W>, code: u32) -> fmt::Result
-    ensures { WritesOnOk W.write_str_gives f.old result (encode_utf8_all (spec.by_number code)) f.new }
+    ensures { WritesText W.write_str_gives f.old result (spec.by_number code) f.new }
 {
     if code < 256 {
         write_escape(f, 'x')?;
@@ -70,7 +69,7 @@ fn write_quoted_char<W: Write>(
     plain: bool,
     c: char,
 ) -> fmt::Result
-    ensures { WritesOnOk W.write_str_gives f.old result (encode_utf8_all (spec.quoted_char quote plain c)) f.new }
+    ensures { WritesText W.write_str_gives f.old result (spec.quoted_char quote plain c) f.new }
 {
     if c == quote || c == '\\' {
         return write_escape(f, c);
@@ -101,7 +100,7 @@ fn text_quote(text: &str) -> char
 }
 
 fn write_text_chars<W: Write>(f: &mut Formatter<W>, quote: char, text: &str) -> fmt::Result
-    ensures { WritesOnOk W.write_str_gives f.old result (encode_utf8_all (spec.quoted_chars quote is_printable (chars text.now))) f.new }
+    ensures { WritesText W.write_str_gives f.old result (text_chars quote (chars text.now)) f.new }
 {
     let mut rest = text.chars();
     'chars: while let Some(c) = rest.next() {
@@ -111,7 +110,7 @@ fn write_text_chars<W: Write>(f: &mut Formatter<W>, quote: char, text: &str) -> 
 }
 
 fn write_text_within<W: Write>(f: &mut Formatter<W>, quote: char, text: &str) -> fmt::Result
-    ensures { WritesOnOk W.write_str_gives f.old result (encode_utf8_all (spec.within quote is_printable (chars text.now))) f.new }
+    ensures { WritesText W.write_str_gives f.old result (text_within quote (chars text.now)) f.new }
 {
     f.write_char(quote)?;
     write_text_chars(f, quote, text)?;
@@ -120,7 +119,7 @@ fn write_text_within<W: Write>(f: &mut Formatter<W>, quote: char, text: &str) ->
 
 /// Writes the repr of a text.
 pub(crate) fn write_text_repr<W: Write>(f: &mut Formatter<W>, text: &str) -> fmt::Result
-    ensures { WritesOnOk W.write_str_gives f.old result (encode_utf8_all (spec.text_repr (chars text.now))) f.new }
+    ensures { WritesText W.write_str_gives f.old result (spec.text_repr (chars text.now)) f.new }
 {
     write_text_within(f, text_quote(text), text)
 }
@@ -142,7 +141,7 @@ fn is_plain_byte(byte: u8) -> bool
 }
 
 fn write_bytes_chars<W: Write>(f: &mut Formatter<W>, quote: char, bytes: &[u8]) -> fmt::Result
-    ensures { WritesOnOk W.write_str_gives f.old result (encode_utf8_all (spec.quoted_chars quote spec.is_plain_byte bytes.now)) f.new }
+    ensures { WritesText W.write_str_gives f.old result (bytes_chars quote bytes.now) f.new }
 {
     'bytes: for byte in bytes {
         write_quoted_char(f, quote, is_plain_byte(*byte), char::from(*byte))?;
@@ -151,7 +150,7 @@ fn write_bytes_chars<W: Write>(f: &mut Formatter<W>, quote: char, bytes: &[u8]) 
 }
 
 fn write_bytes_within<W: Write>(f: &mut Formatter<W>, quote: char, bytes: &[u8]) -> fmt::Result
-    ensures { WritesOnOk W.write_str_gives f.old result (encode_utf8_all (spec.within quote spec.is_plain_byte bytes.now)) f.new }
+    ensures { WritesText W.write_str_gives f.old result (bytes_within quote bytes.now) f.new }
 {
     f.write_char(quote)?;
     write_bytes_chars(f, quote, bytes)?;
@@ -160,7 +159,7 @@ fn write_bytes_within<W: Write>(f: &mut Formatter<W>, quote: char, bytes: &[u8])
 
 /// Writes the repr of bytes.
 pub(crate) fn write_bytes_repr<W: Write>(f: &mut Formatter<W>, bytes: &[u8]) -> fmt::Result
-    ensures { WritesOnOk W.write_str_gives f.old result (encode_utf8_all (spec.bytes_repr bytes.now)) f.new }
+    ensures { WritesText W.write_str_gives f.old result (spec.bytes_repr bytes.now) f.new }
 {
     f.write_char('b')?;
     write_bytes_within(f, bytes_quote(bytes), bytes)

@@ -1,10 +1,10 @@
 //! A sink in memory, which can be told to fail.
 
-ghost use Rattle.std.specs.Prelude.{◌≡◌, ◌<◌, ◌≤◌, length, Some, Ok, IfOk};
+ghost use Rattle.std.specs.Prelude.{◌≡◌, ◌<◌, length, Some, IfOk};
 ghost use Rattle.std.specs.Result.{result_ok};
 ghost use Rattle.std.specs.Io.{WritesAtMost};
 ghost use Rattle.std.specs.Io.KnownBytes.{WriteAppends};
-ghost use Rattle.py_base.specs.Stream.Faults.{Rose, HasCause};
+ghost use Rattle.py_base.specs.Stream.Faults.{HasCause, RoseIfStuck};
 ghost use Rattle.py_base.specs.Stream.Memory.{new_room, write_answer, after_write};
 
 use crate::stream::sink::Sink;
@@ -26,11 +26,11 @@ pub struct MemSink {
 
 impl Model for MemSink {
     ghost use Rattle.std.specs.Prelude.{◌<◌, ◌≤◌, vec_len, vec_capacity};
-    ghost use Rattle.py_base.specs.Stream.Memory.{Room};
+    ghost use Rattle.py_base.specs.Stream.Memory.{Room, room_of};
 
     ghost Value = { Room };
 
-    ghost view = { λ s. record { held = s.bytes.items; room = s.room; fails = s.fails.items; most = s.most; calls = s.calls; faults = s.faults } };
+    ghost view = { λ s. room_of s.bytes.items s.room s.fails.items s.most s.calls s.faults };
 
     ghost invariant = { λ s. (0 < s.most) × (vec_len s.bytes ≤ s.room) × (s.room ≤ vec_capacity s.bytes) };
 }
@@ -78,7 +78,7 @@ impl Sink for MemSink {
         ensures bound { WritesAtMost result piece.now }
         ensures bytes { WriteAppends (Some self.old.held) (Some self.new.held) result piece.now }
         ensures cause { HasCause self.old.faults self.new.faults result }
-        ensures stuck { result ≡ Ok 0 → 0 < length piece.now → Rose self.old.faults self.new.faults }
+        ensures stuck { RoseIfStuck self.old.faults self.new.faults result piece.now }
         ensures exact { result_ok result ≡ write_answer self.old (length piece.now) }
         ensures after { self.new ≡ after_write self.old piece.now }
     {

@@ -24,11 +24,11 @@ pub struct MemSource {
 
 impl Model for MemSource {
     ghost use Rattle.std.specs.Prelude.{◌<◌, ◌≤◌, drop, vec_len};
-    ghost use Rattle.py_base.specs.Stream.Memory.{Store};
+    ghost use Rattle.py_base.specs.Stream.Memory.{Store, store_of};
 
     ghost Value = { Store };
 
-    ghost view = { λ s. record { bytes = drop s.at s.bytes.items; fails = s.fails.items; most = s.most; calls = s.calls; faults = s.faults } };
+    ghost view = { λ s. store_of (drop s.at s.bytes.items) s.fails.items s.most s.calls s.faults };
 
     ghost invariant = { λ s. (0 < s.most) × (s.at ≤ vec_len s.bytes) };
 }

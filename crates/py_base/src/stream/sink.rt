@@ -1,9 +1,9 @@
 //! Where bytes go.
 
-ghost use Rattle.std.specs.Prelude.{◌≡◌, ◌<◌, ℕ, List, length, Option, Ok};
+ghost use Rattle.std.specs.Prelude.{ℕ, List, Option};
 ghost use Rattle.std.specs.Io.{WritesAtMost};
 ghost use Rattle.std.specs.Io.KnownBytes.{WriteAppends};
-ghost use Rattle.py_base.specs.Stream.Faults.{Rose, HasCause};
+ghost use Rattle.py_base.specs.Stream.Faults.{HasCause, RoseIfStuck};
 
 use crate::stream::source::Failed;
 
@@ -25,5 +25,5 @@ pub trait Sink {
         ensures bound { WritesAtMost result piece.now }
         ensures bytes { WriteAppends (contents self.old) (contents self.new) result piece.now }
         ensures cause { HasCause (faults self.old) (faults self.new) result }
-        ensures stuck { result ≡ Ok 0 → 0 < length piece.now → Rose (faults self.old) (faults self.new) };
+        ensures stuck { RoseIfStuck (faults self.old) (faults self.new) result piece.now };
 }
