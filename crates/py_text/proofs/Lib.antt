@@ -1,6 +1,7 @@
 pub mod AffixLemmas
 pub mod AsciiLemmas
 pub mod BetweenLemmas
+pub mod BuildingLemmas
 pub mod CursorLemmas
 pub mod EndLemmas
 pub mod LawLemmas

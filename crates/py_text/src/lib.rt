@@ -2,6 +2,7 @@
 #![tactic(auto)]
 
 mod affixes;
+mod building;
 mod bytes;
 mod hash;
 mod iterator;

@@ -51,8 +51,8 @@ impl PyStr {
         PyStr::copy_counted(alloc, s, count_points(s))
     }
 
-    /// A copy of a text of `count` code points.
-    pub(crate) fn copy_counted(alloc: Global, s: &str, count: usize) -> PyResult<PyStr>
+    /// A copy of a text of `count` code points. Nothing is counted.
+    pub fn copy_counted(alloc: Global, s: &str, count: usize) -> PyResult<PyStr>
         requires { count ≡ length (chars s.now) }
         ensures ok { IfOk result (λ made. made ≡ chars s.now) }
         ensures err { IsOkUnless result PyError.NoMemory }
@@ -61,8 +61,8 @@ impl PyStr {
         Ok(PyStr::with_count(text, count))
     }
 
-    /// The text of `count` code points, moved.
-    pub(crate) fn with_count(text: String, count: usize) -> PyStr
+    /// The text of `count` code points, moved. It takes no memory, and nothing is counted.
+    pub fn with_count(text: String, count: usize) -> PyStr
         requires { count ≡ length (chars (string_bytes text)) }
         ensures { result ≡ chars (string_bytes text) }
     {
@@ -186,17 +186,8 @@ impl PyStr {
         self.append_counted(more, count_points(more))
     }
 
-    /// Appends a text whose code points are counted.
-    pub(crate) fn append_text(&mut self, more: &PyStr) -> PyResult<()>
-        ensures ok { OnOk result (self.new ≡ self.old ++ more.now) }
-        ensures same { OnErr result (self.new ≡ self.old) }
-        ensures err { IsOkUnless result PyError.NoMemory }
-    {
-        self.append_counted(more.as_str(), more.len())
-    }
-
-    // Appends a text of `count` code points.
-    fn append_counted(&mut self, more: &str, count: usize) -> PyResult<()>
+    /// Appends a text of `count` code points. Nothing is counted.
+    pub fn append_counted(&mut self, more: &str, count: usize) -> PyResult<()>
         requires { count ≡ length (chars more.now) }
         ensures ok { OnOk result (self.new ≡ self.old ++ chars more.now) }
         ensures same { OnErr result (self.new ≡ self.old) }
@@ -207,6 +198,21 @@ impl PyStr {
         };
         self.count += count;
         self.ascii = self.count == self.text.as_str().len();
+        Ok(())
+    }
+
+    /// Appends one character.
+    pub fn append_char(&mut self, c: char) -> PyResult<()>
+        ensures ok { OnOk result (self.new ≡ self.old ++ c ∷ []) }
+        ensures same { OnErr result (self.new ≡ self.old) }
+        ensures err { IsOkUnless result PyError.NoMemory }
+    {
+        let Ok(()) = self.text.push(c) else {
+            return Err(PyError::NoMemory);
+        };
+        let bytes = self.text.as_str().len();
+        self.count += 1;
+        self.ascii = self.count == bytes;
         Ok(())
     }
 }

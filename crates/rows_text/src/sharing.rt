@@ -99,6 +99,38 @@ fn lists(rt: HostRuntime) -> Result<(), PyError> {
     Ok(())
 }
 
+// "ab", then "é", "c" and "d", each appended by another call.
+fn appended(alloc: Global) -> PyResult<PyStr> {
+    let mut text = PyStr::with_capacity(alloc, 8)?;
+    text.append_ascii("ab")?;
+    text.append_char('é')?;
+    text.append_counted("c", 1)?;
+    text.append_text(&PyStr::from_char(alloc, 'd')?)?;
+    Ok(text)
+}
+
+#[test]
+fn built(rt: HostRuntime) -> Result<(), PyError> {
+    let text = appended(rt.alloc())?;
+    let points = text.to_chars(rt.alloc())?;
+    assert_eq!(rt;
+        (text.as_str(), text.len(), text.is_ascii()),
+        ("abécd", 5, false)
+    );
+    assert!(rt; PyStr::from_chars(rt.alloc(), &points)? == text);
+    Ok(())
+}
+
+#[test]
+fn counted(rt: HostRuntime) -> Result<(), PyError> {
+    let mut text = PyStr::new(rt.alloc());
+    text.append("é")?;
+    let made = PyStr::with_count(String::from_str(rt.alloc(), "é")?, 1);
+    let copy = PyStr::copy_counted(rt.alloc(), "é", 1)?;
+    assert!(rt; made == text && copy == text);
+    Ok(())
+}
+
 // How the texts `é` and `中` compare with each other, with the empty text and with a copy.
 fn comparisons(alloc: Global, small: &PyStr, great: &PyStr) -> PyResult<[bool; 4]> {
     let copy = PyStr::copy_of(alloc, "é")?;
