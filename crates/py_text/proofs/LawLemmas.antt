@@ -1,7 +1,6 @@
 -- Cut texts, joined again, and limits that take all.
 use Rattle.std.proofs.Common.{◌≡◌, ◌≢◌, ℕ, ◌+◌, ◌-◌, ◌<◌, ◌≤◌, inl, inr, not, max, Bool, true, false, if◌then◌else◌, List, [], ◌∷◌, ◌++◌, map, reverse, length, take, drop, slice_range, suc, zero, refl, ap, sym, ◌∙◌, arith, subst, Option, Some, None, append_assoc, append-nil, take-append-drop, drop-drop}
 use Rattle.std.proofs.lemmas.List.{length-reverse, reverse-append, reverse-reverse, nil_from_length, drop_at}
-use Rattle.std.specs.List.{concat}
 use Rattle.std.specs.Option.{option_or}
 use Rattle.py_base.specs.Chars.Whitespace.{is_ascii_whitespace, skip_while}
 use Rattle.py_text.specs.Whitespace.{from_whitespace, until_whitespace, split_whitespace}
@@ -10,26 +9,12 @@ use Rattle.py_text.specs.Pieces.{pieces, split, limit}
 use Rattle.py_text.specs.Replacing.{join}
 use Rattle.py_text.specs.Mirror.{mirrored}
 use Rattle.py_text.specs.Partitions.{partition, rpartition, parted_at}
-use Rattle.py_text.specs.Lines.{closes_line, onto_first_line, whole_lines}
 use Rattle.py_text.specs.Laws.{FirstIsLeast, LastIsGreatest, NoMoreOccurrences, NoMoreReplaced, NoMoreWhitespacePieces, LinesAreTheText, PiecesAreTheText, PiecesFromRightAreTheText, PartsAreTheText}
 use Rattle.py_text.proofs.OccursLemmas.{OccursAt, occurs_means, below_or_last}
 use Rattle.py_text.proofs.WindowLemmas.{first_means, last_means, first_outside, least_means}
 use Rattle.py_text.proofs.OccurrenceLemmas.{cuts_some, cuts_none, max_one}
 use Rattle.py_text.proofs.ReplacingLemmas.{joined_on}
-use Rattle.py_text.proofs.LineLemmas.{skip_le}
-
--- lines
-concat_front : (c : ℕ) (ls : List (List ℕ)) → concat (onto_first_line c ls) ≡ c ∷ concat ls
-concat_front c [] = refl
-concat_front c (l ∷ ls) = refl
-
-line_case : (c : ℕ) (cs : List ℕ) (t : Bool) → closes_line c cs ≡ t → concat (whole_lines cs) ≡ cs → concat (whole_lines (c ∷ cs)) ≡ c ∷ cs
-line_case c cs true h more = ap (λ b. concat (if b then (c ∷ []) ∷ whole_lines cs else onto_first_line c (whole_lines cs))) h ∙ ap (λ r. c ∷ r) more
-line_case c cs false h more = ap (λ b. concat (if b then (c ∷ []) ∷ whole_lines cs else onto_first_line c (whole_lines cs))) h ∙ concat_front c (whole_lines cs) ∙ ap (λ r. c ∷ r) more
-
-lines_joined : (L : List ℕ) → concat (whole_lines L) ≡ L
-lines_joined [] = refl
-lines_joined (c ∷ cs) = line_case c cs (closes_line c cs) refl (lines_joined cs)
+use Rattle.py_text.proofs.LineLemmas.{skip_le, lines_joined}
 
 pub lines_are : LinesAreTheText
 lines_are = λ L. lines_joined L

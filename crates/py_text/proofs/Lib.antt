@@ -1,5 +1,6 @@
 pub mod AffixLemmas
 pub mod AsciiLemmas
+pub mod AsciiLineLemmas
 pub mod BetweenLemmas
 pub mod BuildingLemmas
 pub mod CursorLemmas

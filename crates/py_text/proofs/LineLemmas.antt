@@ -1,5 +1,6 @@
 -- The first line of a text.
 use Rattle.std.proofs.Common.{◌≡◌, ℕ, ◌+◌, ◌<◌, ◌≤◌, ◌&&◌, ◌==◌, Bool, true, false, not, cond, if◌then◌else◌, List, [], ◌∷◌, ◌++◌, map, length, take, drop, take_while, refl, ap, sym, ◌∙◌, arith, subst, eqb-true, append_assoc, append-nil, length-drop, suc, take-add, drop-drop, chars, IsUtf8}
+use Rattle.std.specs.List.{concat}
 use Rattle.std.proofs.lemmas.List.Sums.{take_while-cons}
 use Rattle.std.proofs.lemmas.Str.{chars-append}
 use Rattle.py_base.specs.Chars.Classes.{is_line_end}
@@ -157,3 +158,16 @@ pub lines_more : (keep : Bool) (L whole line after kept : List ℕ) (list longer
 lines_more keep L whole line after kept list longer total h e k l t =
     ap (λ r. r ++ split_lines keep after) (l ∙ ap (λ r. list ++ r ∷ []) k) ∙ append_assoc list ((if keep then whole else line) ∷ []) (split_lines keep after)
     ∙ ap (λ r. list ++ r) (sym (one_line keep L whole line after h e)) ∙ t
+
+-- the lines, joined
+concat_front : (c : ℕ) (ls : List (List ℕ)) → concat (onto_first_line c ls) ≡ c ∷ concat ls
+concat_front c [] = refl
+concat_front c (l ∷ ls) = refl
+
+line_case : (c : ℕ) (cs : List ℕ) (t : Bool) → closes_line c cs ≡ t → concat (whole_lines cs) ≡ cs → concat (whole_lines (c ∷ cs)) ≡ c ∷ cs
+line_case c cs true h more = ap (λ b. concat (if b then (c ∷ []) ∷ whole_lines cs else onto_first_line c (whole_lines cs))) h ∙ ap (λ r. c ∷ r) more
+line_case c cs false h more = ap (λ b. concat (if b then (c ∷ []) ∷ whole_lines cs else onto_first_line c (whole_lines cs))) h ∙ concat_front c (whole_lines cs) ∙ ap (λ r. c ∷ r) more
+
+pub lines_joined : (L : List ℕ) → concat (whole_lines L) ≡ L
+lines_joined [] = refl
+lines_joined (c ∷ cs) = line_case c cs (closes_line c cs) refl (lines_joined cs)

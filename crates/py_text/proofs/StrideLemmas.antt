@@ -1,7 +1,11 @@
 -- Every so many items of a list.
-use Rattle.std.proofs.Common.{◌≡◌, ◌∙◌, ◌-◌, ◌<◌, ◌≤◌, min, ℕ, zero, suc, List, [], ◌∷◌, ◌++◌, Some, length, take, drop, reverse, sym, ap, refl, append_assoc, append-nil, chars, encode_utf8, arith, inl, inr, subst}
+use Rattle.std.proofs.Common.{◌≡◌, ◌∙◌, ◌+◌, ◌-◌, ◌*◌, ◌<◌, ◌≤◌, ℕ, zero, suc, List, [], ◌∷◌, ◌++◌, Some, length, drop, take, reverse, sym, ap, refl, append_assoc, append-nil, chars, encode_utf8, arith, inl, inr, subst, get_or, add-zero, length-drop, get_or-drop, mul-le-mul_left}
+use Rattle.std.proofs.Math.Nat.{mul_comm, zero-mul, suc-mul}
+use Rattle.std.proofs.lemmas.Grind.{div_ceil_times}
 use Rattle.std.proofs.lemmas.Bool.{cases_lt}
-use Rattle.std.proofs.lemmas.List.{reverse-append, length-reverse, length-drop, take-append-drop, drop_at, drop_all, drop_min, nil_from_length}
+use Rattle.std.proofs.lemmas.List.{reverse-append, length-reverse, take-append-drop, drop_at, drop_all, drop-drop, nil_from_length}
+use Rattle.std.proofs.lemmas.Option.{slice_get-get_or}
+use Rattle.std.specs.Int.{div_ceil}
 use Rattle.std.specs.Prelude.{slice_get}
 use Rattle.std.specs.Char.{IsScalar}
 use Rattle.std.specs.Str.{IsUtf8}
@@ -47,13 +51,6 @@ drop-reverse k L = elim (cases_lt (length L) k) [
       drop_all k (reverse L) (omega (arith, length-reverse L)) ∙ sym (ap (λ n. reverse (take n L)) none)
 ]
 
--- the last item taken, from behind
-pub stride_back : (k : ℕ) (done front rest : List ℕ) (x : ℕ) (whole : List ℕ) → 1 ≤ k → rest ≡ front ++ x ∷ [] → done ++ every k (reverse rest) ≡ whole → (done ++ x ∷ []) ++ every k (reverse (take (length rest - k) rest)) ≡ whole
-stride_back k done front rest x whole h e g =
-    let turned : reverse rest ≡ x ∷ reverse front = ap reverse e ∙ reverse-append front (x ∷ []) in
-    let first : slice_get (reverse rest) 0 ≡ Some x = ap (λ (l : List ℕ). slice_get l 0) turned in
-    ap (λ (l : List ℕ). (done ++ x ∷ []) ++ every k l) (sym (drop-reverse k rest)) ∙ stride_on k done (reverse rest) x whole h first g
-
 -- one character taken, or passed over
 pub char_taken : (k : ℕ) (done bs rest : List ℕ) (c : ℕ) (whole : List ℕ) → IsUtf8 bs → bs ≡ encode_utf8 c ++ rest → done ++ every_after k 0 (chars bs) ≡ whole → (done ++ c ∷ []) ++ every_after k (k - 1) (chars rest) ≡ whole
 char_taken k done bs rest c whole u e g =
@@ -94,27 +91,40 @@ back_passed k n done bs rest c whole h s u e g =
 pub pushed : (old new : List ℕ) (c : ℕ) → IsScalar c → IsUtf8 old → new ≡ old ++ encode_utf8 c → chars new ≡ chars old ++ c ∷ []
 pushed old new c s u e = ap chars e ∙ chars-append old (encode_utf8 c) u ∙ ap (λ (l : List ℕ). chars old ++ l) (one_scalar c s)
 
--- a list, cut at a place
-pub at_place : (L : List ℕ) (n x : ℕ) → slice_get L n ≡ Some x → L ≡ take n L ++ x ∷ drop (suc n) L
-at_place [] n x h = absurd (cc)
-at_place (y ∷ ys) zero x h = let e : y ≡ x = cc in ap (λ z. z ∷ ys) e
-at_place (y ∷ ys) (suc n) x h = ap (λ (l : List ℕ). y ∷ l) (at_place ys n x h)
+-- how many items are taken of n, and where the i-th of them is
+one_more : (k i : ℕ) → k * (i + 1) ≡ i * k + k
+one_more k i = mul_comm k (i + 1) ∙ ap (λ (n : ℕ). n * k) {x = i + 1} {y = suc i} (omega arith) ∙ suc-mul i k
 
-pub last_place : (L : List ℕ) (x : ℕ) → slice_get L (length L - 1) ≡ Some x → L ≡ take (length L - 1) L ++ x ∷ []
-last_place L x h = at_place L (length L - 1) x h ∙ ap (λ (l : List ℕ). take (length L - 1) L ++ x ∷ l) (drop_all (suc (length L - 1)) L (omega arith))
+pub place_inside : (k i n : ℕ) → 1 ≤ k → i < div_ceil n k → i * k < n
+place_inside k i n h b =
+    let most = div_ceil_times n k h in
+    let next : k * (i + 1) ≤ k * div_ceil n k = mul-le-mul_left k (omega arith) in
+    let turned : k * div_ceil n k ≡ div_ceil n k * k = mul_comm k (div_ceil n k) in
+    omega (arith, next, turned, one_more k i, most.1)
 
--- one byte taken, from the front and from behind
-pub byte_taken : (k : ℕ) (kept new rest on : List ℕ) (x : ℕ) (whole : List ℕ) → 1 ≤ k → slice_get rest 0 ≡ Some x → new ≡ kept ++ x ∷ [] → on ≡ drop (min k (length rest)) rest → kept ++ every k rest ≡ whole → new ++ every k on ≡ whole
-byte_taken k kept new rest on x whole h f e o g =
-    ap (λ (l : List ℕ). l ++ every k on) e
-    ∙ ap (λ (l : List ℕ). (kept ++ x ∷ []) ++ every k l) (o ∙ drop_min k rest)
-    ∙ stride_on k kept rest x whole h f g
+place_past : (k n : ℕ) → 1 ≤ k → n ≤ div_ceil n k * k
+place_past k n h = (div_ceil_times n k h).0
 
-pub byte_back : (k : ℕ) (kept new rest on : List ℕ) (x : ℕ) (whole : List ℕ) → 1 ≤ k → slice_get rest (length rest - 1) ≡ Some x → new ≡ kept ++ x ∷ [] → on ≡ take (length rest - k) rest → kept ++ every k (reverse rest) ≡ whole → new ++ every k (reverse on) ≡ whole
-byte_back k kept new rest on x whole h f e o g =
-    ap (λ (l : List ℕ). l ++ every k (reverse on)) e
-    ∙ ap (λ (l : List ℕ). (kept ++ x ∷ []) ++ every k (reverse l)) o
-    ∙ stride_back k kept (take (length rest - 1) rest) rest x whole h (last_place rest x f) g
+-- none taken
+pub strides_begin : (k : ℕ) (kept L : List ℕ) → kept ≡ [] → kept ++ every k (drop (0 * k) L) ≡ every k L
+strides_begin k kept L e = ap (λ (l : List ℕ). l ++ every k (drop (0 * k) L)) e ∙ ap (λ n. every k (drop n L)) (zero-mul k)
+
+-- one more taken
+pub stride_taken : (k i : ℕ) (kept new L : List ℕ) (whole : List ℕ) → 1 ≤ k → i * k < length L → new ≡ kept ++ get_or L (i * k) 0 ∷ [] → kept ++ every k (drop (i * k) L) ≡ whole → new ++ every k (drop ((i + 1) * k) L) ≡ whole
+stride_taken k i kept new L whole h b e g =
+    let first : slice_get (drop (i * k) L) 0 ≡ Some (get_or L (i * k) 0) =
+    slice_get-get_or (drop (i * k) L) 0 0 (omega (arith, length-drop (i * k) L)) ∙ ap Some (get_or-drop (i * k) L 0 0 ∙ ap (λ n. get_or L n 0) (add-zero (i * k))) in
+    let place : i * k + k ≡ (i + 1) * k = sym (one_more k i) ∙ mul_comm k (i + 1) in
+    let next : drop k (drop (i * k) L) ≡ drop ((i + 1) * k) L = drop-drop k (i * k) L ∙ ap (λ n. drop n L) place in
+    ap (λ (l : List ℕ). l ++ every k (drop ((i + 1) * k) L)) e
+    ∙ ap (λ (l : List ℕ). (kept ++ get_or L (i * k) 0 ∷ []) ++ every k l) (sym next)
+    ∙ stride_on k kept (drop (i * k) L) (get_or L (i * k) 0) whole h first g
+
+-- all taken
+pub strides_end : (k n : ℕ) (kept L : List ℕ) (whole : List ℕ) → 1 ≤ k → n ≡ div_ceil (length L) k → kept ++ every k (drop (n * k) L) ≡ whole → kept ≡ whole
+strides_end k n kept L whole h e g =
+    let past : length L ≤ n * k = subst (λ m. length L ≤ m * k) (sym e) (place_past k (length L) h) in
+    sym (append-nil kept) ∙ ap (λ (l : List ℕ). kept ++ every k l) (sym (drop_all (n * k) L past)) ∙ g
 
 -- nothing taken so far, and nothing left
 pub begun : (k : ℕ) (bs : List ℕ) (L : List ℕ) → bs ≡ [] → chars bs ++ every_after k 0 L ≡ every k L

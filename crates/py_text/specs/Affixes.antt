@@ -12,4 +12,5 @@ without_prefix x L = if same (take (length x) L) x then drop (length x) L else L
 
 -- L without the suffix x, where it ends with x
 abbrev pub without_suffix : List ℕ → List ℕ → List ℕ
-without_suffix x L = if same (drop (length L - length x) L) x then take (length L - length x) L else L
+without_suffix x L =
+    if same (drop (length L - length x) L) x then take (length L - length x) L else L

@@ -5,15 +5,18 @@ use Rattle.std.specs.Hash as fed
 use Rattle.std.specs.Int.{cast_signed, w64}
 use Rattle.std.proofs.Common.{ap}
 use Rattle.py_base.specs.Hash.{never_minus_one}
+use Rattle.py_text.specs.declared.hash.TheConstants.{FNV_OFFSET_BASIS, FNV_PRIME}
 
 -- one byte more, by the hash of Fowler, Noll and Vo (FNV-1a) of 64 bits
 abbrev pub mixed : ℕ → ℕ → ℕ
-mixed h b = (bit_xor h b * 1099511628211) % 2 ^ 64
+mixed h b = (bit_xor h b * FNV_PRIME) % 2 ^ 64
 
 -- the UTF-8 bytes, mixed in one after another
 abbrev pub text_hash : ℕ → List ℕ → ℤ
-text_hash seed L = never_minus_one (cast_signed w64 (fold mixed (bit_xor seed 14695981039346656037) (encode_utf8_all L)))
+text_hash seed L =
+    never_minus_one (cast_signed w64 (fold mixed (bit_xor seed FNV_OFFSET_BASIS) (encode_utf8_all L)))
 
 -- equal texts feed a hasher the same
-pub alike_texts : (a b : List ℕ) → pointwise nat_eq a b ≡ true → fed.str (encode_utf8_all a) ≡ fed.str (encode_utf8_all b)
+pub alike_texts : (a b : List ℕ) → pointwise nat_eq a b ≡ true
+    → fed.str (encode_utf8_all a) ≡ fed.str (encode_utf8_all b)
 alike_texts a b h = ap (λ t. fed.str (encode_utf8_all t)) ((bytes_decides a b).0 h)

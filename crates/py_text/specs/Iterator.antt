@@ -21,12 +21,15 @@ next_of (Some s) = slice_get s.text s.place
 -- where `next` leaves it: one place on, or exhausted at the end of the text
 abbrev pub after_next : Option Position → Option Position
 after_next None = None
-after_next (Some s) = if nat_lt s.place (length s.text) then Some (record { text = s.text; place = s.place + 1 }) else None
+after_next (Some s) =
+    if nat_lt s.place (length s.text) then Some (record { text = s.text; place = s.place + 1 })
+    else None
 
 -- at a given place, clamped to the text; an exhausted one stays exhausted
 abbrev pub moved_to : ℤ → Option Position → Option Position
 moved_to z None = None
-moved_to z (Some s) = Some (record { text = s.text; place = unsigned_abs (clamp (pos 0) (pos (length s.text)) z) })
+moved_to z (Some s) =
+    Some (record { text = s.text; place = unsigned_abs (clamp (pos 0) (pos (length s.text)) z) })
 
 -- the place is in the text, and its code point begins after so many bytes
 pub record IsCursor (text : List ℕ) (place offset : ℕ) : Type 0 where

@@ -23,23 +23,28 @@ AreEqualAsLists eq = (a b : List ℕ) → IsTrue (eq a b) ↔ (a ≡ b)
 -- an order of lists: the first item that differs decides
 abbrev pub AreOrderedByFirstDifference : (List ℕ → List ℕ → Ordering) → Type 0
 AreOrderedByFirstDifference cmp = (start xs ys : List ℕ) (c d : ℕ) → c < d
-    → (cmp (start ++ c ∷ xs) (start ++ d ∷ ys) ≡ Less) × (cmp (start ++ d ∷ ys) (start ++ c ∷ xs) ≡ Greater)
+    → (cmp (start ++ c ∷ xs) (start ++ d ∷ ys) ≡ Less)
+    × (cmp (start ++ d ∷ ys) (start ++ c ∷ xs) ≡ Greater)
 
 -- a list comes after each of its proper prefixes
 abbrev pub HavePrefixesFirst : (List ℕ → List ℕ → Ordering) → Type 0
-HavePrefixesFirst cmp = (prefix xs : List ℕ) (c : ℕ) → (cmp prefix (prefix ++ c ∷ xs) ≡ Less) × (cmp (prefix ++ c ∷ xs) prefix ≡ Greater)
+HavePrefixesFirst cmp =
+    (prefix xs : List ℕ) (c : ℕ)
+    → (cmp prefix (prefix ++ c ∷ xs) ≡ Less) × (cmp (prefix ++ c ∷ xs) prefix ≡ Greater)
 
 -- two are equal in the order exactly where they are one list
 abbrev pub AreEqualInOrder : (List ℕ → List ℕ → Ordering) → Type 0
 AreEqualInOrder cmp = (a b : List ℕ) → (cmp a b ≡ Equal) ↔ (a ≡ b)
 
 -- a partial order that is the order
-abbrev pub AreComparedAsOrdered : (List ℕ → List ℕ → Option Ordering) → (List ℕ → List ℕ → Ordering) → Type 0
+abbrev pub AreComparedAsOrdered : (List ℕ → List ℕ → Option Ordering)
+    → (List ℕ → List ℕ → Ordering) → Type 0
 AreComparedAsOrdered partial_cmp cmp = (a b : List ℕ) → partial_cmp a b ≡ Some (cmp a b)
 
 -- equal texts hash alike, under each seed
 abbrev pub EqualHashes : Type 0
-EqualHashes = (seed : ℕ) (a b : List ℕ) → IsTrue (pointwise nat_eq a b) → text_hash seed a ≡ text_hash seed b
+EqualHashes =
+    (seed : ℕ) (a b : List ℕ) → IsTrue (pointwise nat_eq a b) → text_hash seed a ≡ text_hash seed b
 
 -- a sum is as long as both texts
 abbrev pub LengthOfSum : Type 0
@@ -56,36 +61,48 @@ GivesTheRest = (it : Option Position) (n : ℕ) → length (rest_of it) ≤ n �
 
 -- an iterator that is put at the end of its text or past it has nothing left
 abbrev pub NothingPastTheEnd : Type 0
-NothingPastTheEnd = (s : Position) (z : ℤ) → pos (length s.text) ≤ℤ z → rest_of (moved_to z (Some s)) ≡ []
+NothingPastTheEnd =
+    (s : Position) (z : ℤ) → pos (length s.text) ≤ℤ z → rest_of (moved_to z (Some s)) ≡ []
 
 -- an exhausted iterator stays exhausted
 abbrev pub StaysExhausted : Type 0
-StaysExhausted = (z : ℤ) → (next_of None ≡ None) × (after_next None ≡ None) × (moved_to z None ≡ None)
+StaysExhausted =
+    (z : ℤ) → (next_of None ≡ None) × (after_next None ≡ None) × (moved_to z None ≡ None)
 
 -- a slice of a list of n items takes at most n places: to look for more gives no more
 abbrev pub NoMorePlaces : Type 0
 NoMorePlaces = (n more : ℕ) (start stop : Option ℤ) (step : ℤ) → step ≢ pos 0
-    → places_from (n + more) step (stop_of n step stop) (start_of n step start) ≡ places_from n step (stop_of n step stop) (start_of n step start)
+    → places_from (n + more) step (stop_of n step stop) (start_of n step start)
+    ≡ places_from n step (stop_of n step stop) (start_of n step start)
 
 -- where x occurs in a part of a text, the first place found is there and not past it
 abbrev pub FirstIsLeast : Type 0
-FirstIsLeast = (x L : List ℕ) (b e a : ℕ) → occurs_at x L b e a ≡ true → (c : ℕ) × (first_in x L b e ≡ Some c) × (occurs_at x L b e c ≡ true) × (c ≤ a)
+FirstIsLeast =
+    (x L : List ℕ) (b e a : ℕ) → occurs_at x L b e a ≡ true
+    → (c : ℕ) × (first_in x L b e ≡ Some c) × (occurs_at x L b e c ≡ true) × (c ≤ a)
 
 -- and the last place found is not before it
 abbrev pub LastIsGreatest : Type 0
-LastIsGreatest = (x L : List ℕ) (b e a : ℕ) → occurs_at x L b e a ≡ true → (c : ℕ) × (last_in x L b e ≡ Some c) × (occurs_at x L b e c ≡ true) × (a ≤ c)
+LastIsGreatest =
+    (x L : List ℕ) (b e a : ℕ) → occurs_at x L b e a ≡ true
+    → (c : ℕ) × (last_in x L b e ≡ Some c) × (occurs_at x L b e c ≡ true) × (a ≤ c)
 
 -- a window from b to e has at most e + 1 - b places: to look for more gives no more
 abbrev pub NoMoreOccurrences : Type 0
-NoMoreOccurrences = (k more : ℕ) (x L : List ℕ) (b e : ℕ) → e < b + k → occurrences (k + more) x L b e ≡ occurrences k x L b e
+NoMoreOccurrences =
+    (k more : ℕ) (x L : List ℕ) (b e : ℕ) → e < b + k
+    → occurrences (k + more) x L b e ≡ occurrences k x L b e
 
 -- nor does a greater limit change what `split` and `replace` give
 abbrev pub NoMoreReplaced : Type 0
-NoMoreReplaced = (k more : ℕ) (x y L : List ℕ) → length L < k → (split (k + more) x L ≡ split k x L) × (replace (k + more) x y L ≡ replace k x y L)
+NoMoreReplaced =
+    (k more : ℕ) (x y L : List ℕ) → length L < k
+    → (split (k + more) x L ≡ split k x L) × (replace (k + more) x y L ≡ replace k x y L)
 
 -- a text has at most as many pieces between whitespace as code points
 abbrev pub NoMoreWhitespacePieces : Type 0
-NoMoreWhitespacePieces = (k more : ℕ) (L : List ℕ) → length L ≤ k → split_whitespace (k + more) L ≡ split_whitespace k L
+NoMoreWhitespacePieces =
+    (k more : ℕ) (L : List ℕ) → length L ≤ k → split_whitespace (k + more) L ≡ split_whitespace k L
 
 -- P holds of each but the last
 abbrev pub AllButLast : (List ℕ → Type 0) → List (List ℕ) → Type 0
@@ -120,4 +137,6 @@ PiecesFromRightAreTheText = (x L : List ℕ) (m : ℤ) → x ≢ [] → join x (
 
 -- front, mid and back of a partition, joined, are the text
 abbrev pub PartsAreTheText : Type 0
-PartsAreTheText = (x L : List ℕ) → (let p = partition x L in p.0 ++ p.1 ++ p.2 ≡ L) × (let p = rpartition x L in p.0 ++ p.1 ++ p.2 ≡ L)
+PartsAreTheText =
+    (x L : List ℕ) → (let p = partition x L in p.0 ++ p.1 ++ p.2 ≡ L)
+    × (let p = rpartition x L in p.0 ++ p.1 ++ p.2 ≡ L)

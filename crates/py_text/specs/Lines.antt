@@ -24,7 +24,8 @@ onto_first_line c (l ∷ ls) = (c ∷ l) ∷ ls
 -- the lines of L, each with its end
 abbrev pub whole_lines : List ℕ → List (List ℕ)
 whole_lines [] = []
-whole_lines (c ∷ cs) = if closes_line c cs then (c ∷ []) ∷ whole_lines cs else onto_first_line c (whole_lines cs)
+whole_lines (c ∷ cs) =
+    if closes_line c cs then (c ∷ []) ∷ whole_lines cs else onto_first_line c (whole_lines cs)
 
 -- a line up to its end
 abbrev pub without_end : List ℕ → List ℕ

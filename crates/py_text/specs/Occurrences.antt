@@ -25,14 +25,17 @@ first_in x L b e = least (occurs_at x L b e) (suc e)
 abbrev pub last_in : List ℕ → List ℕ → ℕ → ℕ → Option ℕ
 last_in x L b e = greatest (occurs_at x L b e) (suc e)
 
--- the first k places of x in L from b to e, found from the left without overlap; an empty x occurs at each place once
+-- the first k places of x in L from b to e, found from the left without overlap; an empty x occurs
+-- at each place once
 abbrev pub occurrences : ℕ → List ℕ → List ℕ → ℕ → ℕ → List ℕ
 occurrences zero x L b e = []
-occurrences (suc k) x L b e = elim (first_in x L b e) [ None ↦ [] | Some a ↦ a ∷ occurrences k x L (a + max 1 (length x)) e ]
+occurrences (suc k) x L b e =
+    elim (first_in x L b e) [ None ↦ [] | Some a ↦ a ∷ occurrences k x L (a + max 1 (length x)) e ]
 
 -- front and back are what is before and after x at this place of L
 abbrev pub IsAround : List ℕ → List ℕ → Option ℕ → List ℕ → List ℕ → Type 0
-IsAround x L place front back = (a : ℕ) × (place ≡ Some a) × (front ≡ take a L) × (back ≡ drop (a + length x) L)
+IsAround x L place front back =
+    (a : ℕ) × (place ≡ Some a) × (front ≡ take a L) × (back ≡ drop (a + length x) L)
 
 -- n is how often x occurs in L, however many places are looked for past its length
 abbrev pub IsOccurrenceCount : List ℕ → List ℕ → ℕ → Type 0

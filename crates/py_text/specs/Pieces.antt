@@ -22,7 +22,8 @@ split k x L = pieces L (length x) 0 (occurrences k x L 0 (length L))
 abbrev pub rsplit : ℕ → List ℕ → List ℕ → List (List ℕ)
 rsplit k x L = mirrored (split k (reverse x) (reverse L))
 
--- L split at a separator, or at whitespace where there is none, at most m times from the left; a negative m sets no limit
+-- L split at a separator, or at whitespace where there is none, at most m times from the left; a
+-- negative m sets no limit
 abbrev pub split_by : Option (List ℕ) → ℤ → List ℕ → List (List ℕ)
 split_by None m L = split_whitespace (limit (length L) m) L
 split_by (Some x) m L = split (limit (length L) m) x L

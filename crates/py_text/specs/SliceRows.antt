@@ -38,5 +38,6 @@ three_times = refl
 pub without_what_it_begins_with : without_prefix (codes "ab") (codes "abab") ≡ codes "ab"
 without_what_it_begins_with = refl
 
-pub put_past_the_end : rest_of (moved_to (pos 9) (Some (record { text = codes "ab"; place = 1 }))) ≡ []
+pub put_past_the_end :
+    rest_of (moved_to (pos 9) (Some (record { text = codes "ab"; place = 1 }))) ≡ []
 put_past_the_end = refl

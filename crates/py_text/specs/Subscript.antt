@@ -20,7 +20,8 @@ item_of L z = item_at L (from_end (length L) z)
 abbrev pub clamp : ℤ → ℤ → ℤ → ℤ
 clamp low high z = int_max low (int_min z high)
 
--- an end of a slice of a list of n items: a given one is counted from the end where it is negative, and then clamped
+-- an end of a slice of a list of n items: a given one is counted from the end where it is negative,
+-- and then clamped
 abbrev pub end_of : ℕ → ℤ → ℤ → ℤ → Option ℤ → ℤ
 end_of n low high absent None = absent
 end_of n low high absent (Some z) = clamp low high (from_end n z)
@@ -32,9 +33,11 @@ goes_on step stop at = if int_lt step (pos 0) then int_lt stop at else int_lt at
 -- the places at, at + step and on, as long as they are not at the stop; at most n of them
 abbrev pub places_from : ℕ → ℤ → ℤ → ℤ → List ℤ
 places_from zero step stop at = []
-places_from (suc n) step stop at = if goes_on step stop at then at ∷ places_from n step stop (at +ℤ step) else []
+places_from (suc n) step stop at =
+    if goes_on step stop at then at ∷ places_from n step stop (at +ℤ step) else []
 
--- where a slice of a list of n items begins: at its first item, or at its last one where the step is negative
+-- where a slice of a list of n items begins: at its first item, or at its last one where the step
+-- is negative
 abbrev pub start_of : ℕ → ℤ → Option ℤ → ℤ
 start_of n step start =
     if int_lt step (pos 0)

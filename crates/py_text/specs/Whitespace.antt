@@ -11,9 +11,11 @@ until_whitespace L = take_while (λ c. not (is_ascii_whitespace c)) L
 abbrev pub from_whitespace : List ℕ → List ℕ
 from_whitespace L = skip_while (λ c. not (is_ascii_whitespace c)) L
 
--- the first k pieces between whitespace, and what is after them as one last piece, which does not begin with whitespace
+-- the first k pieces between whitespace, and what is after them as one last piece, which does not
+-- begin with whitespace
 abbrev pub split_whitespace : ℕ → List ℕ → List (List ℕ)
-split_whitespace zero L = elim (skip_while is_ascii_whitespace L) [ [] ↦ [] | c ∷ cs ↦ (c ∷ cs) ∷ [] ]
+split_whitespace zero L =
+    elim (skip_while is_ascii_whitespace L) [ [] ↦ [] | c ∷ cs ↦ (c ∷ cs) ∷ [] ]
 split_whitespace (suc k) L = elim (skip_while is_ascii_whitespace L) [
   | [] ↦ []
   | c ∷ cs ↦ until_whitespace (c ∷ cs) ∷ split_whitespace k (from_whitespace (c ∷ cs))

@@ -1,7 +1,8 @@
 -- The window of a text that a search looks at.
 use Rattle.std.specs.Prelude.{ℕ, ◌+◌, ◌-◌, min, ℤ, pos, negsuc, Option, Some, None}
 
--- a place in n code points; a negative one counts from the end, and is 0 where that is before the beginning
+-- a place in n code points; a negative one counts from the end, and is 0 where that is before the
+-- beginning
 abbrev pub counted_place : ℕ → ℤ → ℕ
 counted_place n (pos a) = a
 counted_place n (negsuc k) = n - (k + 1)

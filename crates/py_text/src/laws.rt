@@ -27,7 +27,7 @@ pub fn bytes_ordered_by_first_difference()
 {}
 
 /// A text comes after each of its prefixes.
-pub fn beginnings_come_first()
+pub fn text_prefixes_come_first()
     ensures { HavePrefixesFirst ⟦<PyStr as Ord>⟧.cmp }
 {}
 

@@ -68,11 +68,12 @@ impl PyStr {
         ensures ok { IfOk result (λ lines. lines ≡ split_lines keepends self.now) }
         ensures err { IsOkUnless result PyError.NoMemory }
     {
+        let ascii = self.is_ascii();
         let mut list = TextList::new(alloc);
         let mut rest = self.as_str();
         while let Some((whole, line, after)) = first_line(rest) {
             let kept = if keepends { whole } else { line };
-            list.push_copy(alloc, kept)?;
+            list.push_copy(alloc, kept, ascii)?;
             rest = after;
         }
         Ok(list)

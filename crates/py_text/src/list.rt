@@ -1,7 +1,9 @@
 //! A list of texts.
 
-ghost use Rattle.std.specs.Prelude.{◌≡◌, [], ◌∷◌, ◌++◌, length, reverse, slice_get, option_copied, chars, OnOk, OnErr, IsOkUnless};
+ghost use Rattle.std.specs.Prelude.{◌≡◌, true, [], ◌∷◌, ◌++◌, length, reverse, slice_get, option_copied, chars, OnOk, OnErr, IsOkUnless};
+ghost use Rattle.py_text.specs.Text.{all_ascii};
 
+use crate::points::count_of_part;
 use crate::text::PyStr;
 use py_base::{PyError, PyResult};
 use std::alloc::Global;
@@ -43,12 +45,14 @@ impl TextList {
         }
     }
 
-    /// Appends a copy of a text.
-    pub(crate) fn push_copy(&mut self, alloc: Global, text: &str) -> PyResult<()>
-        ensures ok { OnOk result (self.new ≡ self.old ++ chars text.now ∷ []) }
+    /// Appends a copy of a part of a text. With `ascii` all of it is ASCII, and nothing is counted.
+    pub(crate) fn push_copy(&mut self, alloc: Global, part: &str, ascii: bool) -> PyResult<()>
+        requires { ascii ≡ true → all_ascii (chars part.now) ≡ true }
+        ensures ok { OnOk result (self.new ≡ self.old ++ chars part.now ∷ []) }
         ensures err { IsOkUnless result PyError.NoMemory }
     {
-        self.push(PyStr::copy_of(alloc, text)?)
+        let count = count_of_part(part, ascii);
+        self.push(PyStr::copy_counted(alloc, part, count)?)
     }
 
     // Reverses the list.
@@ -56,6 +60,13 @@ impl TextList {
         ensures { self.new ≡ reverse self.old }
     {
         self.items.reverse();
+    }
+
+    /// The texts, borrowed.
+    pub(crate) fn as_slice(&self) -> &[PyStr]
+        ensures { result.now ≡ self.now }
+    {
+        &self.items
     }
 
     /// How many texts there are.

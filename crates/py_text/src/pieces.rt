@@ -1,7 +1,8 @@
 //! A text split at a separator, or at whitespace, into pieces.
 
-ghost use Rattle.std.specs.Prelude.{◌≡◌, ◌≢◌, ◌<◌, ◌++◌, ◌∷◌, ◌^◌, [], Some, length, map, reverse, chars, IfOk, IsOk, IsOkUnless, Err};
+ghost use Rattle.std.specs.Prelude.{◌≡◌, true, ◌≢◌, ◌<◌, ◌++◌, ◌∷◌, ◌^◌, [], Some, length, map, reverse, chars, IfOk, IsOk, IsOkUnless, Err};
 ghost use Rattle.py_text.specs.Pieces.{limit, split, rsplit, split_by, rsplit_by};
+ghost use Rattle.py_text.specs.Text.{all_ascii};
 
 use crate::list::TextList;
 use crate::occurrences::{around_first, around_last};
@@ -26,41 +27,43 @@ pub(crate) fn limit_of(len: usize, most: isize) -> usize
     if most < 0 { len + 1 } else { most as usize }
 }
 
-// The text with one more piece last.
-fn finished(alloc: Global, mut list: TextList, rest: &str) -> PyResult<TextList>
+// The list with one more piece last. With `ascii` all of it is ASCII.
+fn finished(alloc: Global, mut list: TextList, rest: &str, ascii: bool) -> PyResult<TextList>
+    requires { ascii ≡ true → all_ascii (chars rest.now) ≡ true }
     ensures ok { IfOk result (λ pieces. pieces ≡ list ++ chars rest.now ∷ []) }
     ensures err { IsOkUnless result PyError.NoMemory }
 {
-    list.push_copy(alloc, rest)?;
+    list.push_copy(alloc, rest, ascii)?;
     Ok(list)
 }
 
 // The pieces at the first `limit` places of `sep`, which is not empty.
-fn split_at(alloc: Global, text: &str, sep: &str, limit: usize) -> PyResult<TextList>
+fn split_at(alloc: Global, text: &PyStr, sep: &str, limit: usize) -> PyResult<TextList>
     requires { 0 < length (chars sep.now) }
-    ensures ok { IfOk result (λ pieces. pieces ≡ split limit (chars sep.now) (chars text.now)) }
+    ensures ok { IfOk result (λ pieces. pieces ≡ split limit (chars sep.now) text.now) }
     ensures err { IsOkUnless result PyError.NoMemory }
 {
+    let ascii = text.is_ascii();
     let mut list = TextList::new(alloc);
-    let mut rest = text;
+    let mut rest = text.as_str();
     let mut left = limit;
     while left > 0 {
         match around_first(rest, sep) {
             Some((front, _, back)) => {
-                list.push_copy(alloc, front)?;
+                list.push_copy(alloc, front, ascii)?;
                 rest = back;
                 left -= 1;
             }
-            None => return finished(alloc, list, rest),
+            None => return finished(alloc, list, rest, ascii),
         }
     }
-    finished(alloc, list, rest)
+    finished(alloc, list, rest, ascii)
 }
 
 // The pieces at the last `limit` places of `sep`, which is not empty, in order of the text.
-fn rsplit_at(alloc: Global, text: &str, sep: &str, limit: usize) -> PyResult<TextList>
+fn rsplit_at(alloc: Global, text: &PyStr, sep: &str, limit: usize) -> PyResult<TextList>
     requires { 0 < length (chars sep.now) }
-    ensures ok { IfOk result (λ pieces. pieces ≡ rsplit limit (chars sep.now) (chars text.now)) }
+    ensures ok { IfOk result (λ pieces. pieces ≡ rsplit limit (chars sep.now) text.now) }
     ensures err { IsOkUnless result PyError.NoMemory }
 {
     let mut list = pieces_from_right(alloc, text, sep, limit)?;
@@ -69,26 +72,27 @@ fn rsplit_at(alloc: Global, text: &str, sep: &str, limit: usize) -> PyResult<Tex
 }
 
 // Those pieces, the last one first.
-fn pieces_from_right(alloc: Global, text: &str, sep: &str, limit: usize) -> PyResult<TextList>
+fn pieces_from_right(alloc: Global, text: &PyStr, sep: &str, limit: usize) -> PyResult<TextList>
     requires { 0 < length (chars sep.now) }
     ensures ok { IfOk result (λ pieces.
-        map reverse pieces ≡ split limit (reverse (chars sep.now)) (reverse (chars text.now))) }
+        map reverse pieces ≡ split limit (reverse (chars sep.now)) (reverse text.now)) }
     ensures err { IsOkUnless result PyError.NoMemory }
 {
+    let ascii = text.is_ascii();
     let mut list = TextList::new(alloc);
-    let mut rest = text;
+    let mut rest = text.as_str();
     let mut left = limit;
     while left > 0 {
         match around_last(rest, sep) {
             Some((front, _, back)) => {
-                list.push_copy(alloc, back)?;
+                list.push_copy(alloc, back, ascii)?;
                 rest = front;
                 left -= 1;
             }
-            None => return finished(alloc, list, rest),
+            None => return finished(alloc, list, rest, ascii),
         }
     }
-    finished(alloc, list, rest)
+    finished(alloc, list, rest, ascii)
 }
 
 impl PyStr {
@@ -106,15 +110,14 @@ impl PyStr {
         ensures ok { IfOk result (λ pieces.
             pieces ≡ split_by args.now.sep args.now.maxsplit self.now) }
     {
-        let text = self.as_str();
         let limit = limit_of(self.len(), args.maxsplit);
         match &args.sep {
-            None => whitespace::split_whitespace(alloc, text, limit),
+            None => whitespace::split_whitespace(alloc, self, limit),
             Some(sep) => {
                 if sep.is_empty() {
                     return Err(PyError::EmptySeparator);
                 }
-                split_at(alloc, text, sep.as_str(), limit)
+                split_at(alloc, self, sep.as_str(), limit)
             }
         }
     }
@@ -131,15 +134,14 @@ impl PyStr {
         ensures ok { IfOk result (λ pieces.
             pieces ≡ rsplit_by args.now.sep args.now.maxsplit self.now) }
     {
-        let text = self.as_str();
         let limit = limit_of(self.len(), args.maxsplit);
         match &args.sep {
-            None => whitespace::rsplit_whitespace(alloc, text, limit),
+            None => whitespace::rsplit_whitespace(alloc, self, limit),
             Some(sep) => {
                 if sep.is_empty() {
                     return Err(PyError::EmptySeparator);
                 }
-                rsplit_at(alloc, text, sep.as_str(), limit)
+                rsplit_at(alloc, self, sep.as_str(), limit)
             }
         }
     }

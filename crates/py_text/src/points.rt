@@ -3,11 +3,12 @@
 ghost use Rattle.std.specs.Prelude.{◌≡◌, ◌≤◌, ◌<◌, ◌+◌, ◌-◌, true, length, take, drop, slice_index, slice_get, slice_range, chars, Some};
 ghost use Rattle.std.specs.Str.{IsCharBoundary};
 ghost use Rattle.py_text.specs.Points as spec;
+ghost use Rattle.py_text.specs.Text.{all_ascii};
 
 // How many bytes are counted at once: below 256, so that a byte holds their count.
 const BLOCK: usize = 192;
 
-// How many bytes are counted at once on the way to a place.
+// How many bytes are counted at once close to a place.
 const STEP: usize = 32;
 
 // Whether a code point begins with the byte.
@@ -52,23 +53,49 @@ pub(crate) fn count_points(text: &str) -> usize
     starts_in(text.as_bytes())
 }
 
+/// How many code points a part of a text has. With `ascii` all are ASCII, and nothing is counted.
+pub(crate) fn count_of_part(part: &str, ascii: bool) -> usize
+    requires { ascii ≡ true → all_ascii (chars part.now) ≡ true }
+    ensures { result ≡ length (chars part.now) }
+{
+    if ascii {
+        part.len()
+    } else {
+        count_points(part)
+    }
+}
+
+// A walk on from the byte `at`, `size` bytes at a time, while at most `left` code points begin in
+// them: where it ends, and how many of those are left.
+#[inline(always)]
+fn walk_on(bytes: &[u8], at: usize, left: usize, size: usize) -> (usize, usize)
+    requires inside { at ≤ length bytes.now }
+    requires some { 0 < size }
+    requires few { size < 256 }
+    ensures inside { result.0 ≤ length bytes.now }
+    ensures count { spec.starts_in (take result.0 bytes.now) + result.1
+        ≡ spec.starts_in (take at bytes.now) + left }
+{
+    let mut place = at;
+    let mut more = left;
+    'walk: while bytes.len() - place >= size {
+        let starts = usize::from(starts_in_block(&bytes[place..place + size]));
+        if starts > more {
+            break;
+        }
+        more -= starts;
+        place += size;
+    }
+    (place, more)
+}
+
 // A byte not past the code point at the place `n`, and how many code points are between.
 fn near_before(bytes: &[u8], n: usize) -> (usize, usize)
-    requires { n ≤ spec.starts_in bytes.now }
     ensures inside { result.0 ≤ length bytes.now }
     ensures count { spec.starts_in (take result.0 bytes.now) + result.1 ≡ n }
 {
-    let mut at = 0;
-    let mut left = n;
-    'walk: while bytes.len() - at >= STEP {
-        let starts = usize::from(starts_in_block(&bytes[at..at + STEP]));
-        if starts > left {
-            break;
-        }
-        left -= starts;
-        at += STEP;
-    }
-    (at, left)
+    let (at, left) = walk_on(bytes, 0, n, BLOCK);
+    walk_on(bytes, at, left, STEP)
 }
 
 // How many bytes are before the code point at the place `n`.
@@ -92,24 +119,39 @@ fn bytes_before(bytes: &[u8], n: usize) -> usize
     at
 }
 
+// A walk back from the byte `at`, `size` bytes at a time, while fewer than `left` code points begin
+// in them: where it ends, and how many of those are left.
+#[inline(always)]
+fn walk_back(bytes: &[u8], at: usize, left: usize, size: usize) -> (usize, usize)
+    requires inside { at ≤ length bytes.now }
+    requires some { 0 < size }
+    requires few { size < 256 }
+    ensures inside { result.0 ≤ length bytes.now }
+    ensures count { spec.starts_in (drop result.0 bytes.now) + result.1
+        ≡ spec.starts_in (drop at bytes.now) + left }
+    ensures end { result.1 ≡ 0 → (left ≡ 0) × (result.0 ≡ at) }
+{
+    let mut place = at;
+    let mut more = left;
+    'walk: while place >= size {
+        let starts = usize::from(starts_in_block(&bytes[place - size..place]));
+        if starts >= more {
+            break;
+        }
+        more -= starts;
+        place -= size;
+    }
+    (place, more)
+}
+
 // A byte past the beginning of the last `n` code points, and how many of them begin before it.
 fn near_before_last(bytes: &[u8], n: usize) -> (usize, usize)
-    requires { n ≤ spec.starts_in bytes.now }
     ensures inside { result.0 ≤ length bytes.now }
     ensures count { spec.starts_in (drop result.0 bytes.now) + result.1 ≡ n }
     ensures end { result.1 ≡ 0 → result.0 ≡ length bytes.now }
 {
-    let mut at = bytes.len();
-    let mut left = n;
-    'walk: while at >= STEP {
-        let starts = usize::from(starts_in_block(&bytes[at - STEP..at]));
-        if starts >= left {
-            break;
-        }
-        left -= starts;
-        at -= STEP;
-    }
-    (at, left)
+    let (at, left) = walk_back(bytes, bytes.len(), n, BLOCK);
+    walk_back(bytes, at, left, STEP)
 }
 
 // How many bytes are before the last `n` code points.

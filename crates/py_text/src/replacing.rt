@@ -97,14 +97,12 @@ fn put_item(out: &mut PyStr, sep: &PyStr, items: &TextList, i: usize) -> PyResul
 // How many bytes the items take with the separator between, for the room that is reserved: no
 // result rests on it.
 fn room_of(sep: &PyStr, items: &TextList) -> usize {
-    let mut room = 0usize;
-    for i in 0..items.len() {
-        if let Some(item) = items.get(i) {
-            room = room.saturating_add(item.byte_len());
-            room = room.saturating_add(sep.byte_len());
-        }
+    let between = items.len().saturating_sub(1);
+    let mut room = sep.byte_len().saturating_mul(between);
+    for item in items.as_slice() {
+        room = room.saturating_add(item.byte_len());
     }
-    room.saturating_sub(sep.byte_len())
+    room
 }
 
 impl PyStr {

@@ -15,11 +15,10 @@ pub(crate) fn every_byte(alloc: Global, bytes: &[u8], step: usize) -> PyResult<P
     ensures ok { IfOk result (λ made. made ≡ every step bytes.now) }
     ensures err { IsOkUnless result PyError.NoMemory }
 {
-    let mut kept = Vec::with_capacity(alloc, bytes.len().div_ceil(step))?;
-    let mut rest = bytes;
-    while let Some(byte) = rest.first() {
-        kept.push(*byte)?;
-        rest = rest.split_at(step.min(rest.len())).1;
+    let count = bytes.len().div_ceil(step);
+    let mut kept = Vec::with_capacity(alloc, count)?;
+    for i in 0..count {
+        kept.push_reserved(bytes[i * step]);
     }
     Ok(PyStr::new_ascii_unchecked(kept))
 }
@@ -31,11 +30,10 @@ pub(crate) fn every_byte_back(alloc: Global, bytes: &[u8], step: usize) -> PyRes
     ensures ok { IfOk result (λ made. made ≡ every step (reverse bytes.now)) }
     ensures err { IsOkUnless result PyError.NoMemory }
 {
-    let mut kept = Vec::with_capacity(alloc, bytes.len().div_ceil(step))?;
-    let mut rest = bytes;
-    while let Some(byte) = rest.last() {
-        kept.push(*byte)?;
-        rest = rest.split_at(rest.len().saturating_sub(step)).0;
+    let count = bytes.len().div_ceil(step);
+    let mut kept = Vec::with_capacity(alloc, count)?;
+    for i in 0..count {
+        kept.push_reserved(bytes[bytes.len() - 1 - i * step]);
     }
     Ok(PyStr::new_ascii_unchecked(kept))
 }

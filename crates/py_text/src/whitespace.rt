@@ -6,6 +6,7 @@ ghost use Rattle.py_text.specs.Whitespace as spec;
 
 use crate::list::TextList;
 use crate::points::offset_of;
+use crate::text::PyStr;
 use py_base::{PyError, PyResult, is_ascii_whitespace};
 use std::alloc::Global;
 
@@ -44,20 +45,21 @@ fn word_len(text: &str) -> usize
 }
 
 /// The first `limit` pieces, and the rest as one last piece.
-pub(crate) fn split_whitespace(alloc: Global, text: &str, limit: usize) -> PyResult<TextList>
-    ensures ok { IfOk result (λ pieces. pieces ≡ spec.split_whitespace limit (chars text.now)) }
+pub(crate) fn split_whitespace(alloc: Global, text: &PyStr, limit: usize) -> PyResult<TextList>
+    ensures ok { IfOk result (λ pieces. pieces ≡ spec.split_whitespace limit text.now) }
     ensures err { IsOkUnless result PyError.NoMemory }
 {
+    let ascii = text.is_ascii();
     let mut list = TextList::new(alloc);
-    let mut rest = skip_whitespace(text);
+    let mut rest = skip_whitespace(text.as_str());
     let mut left = limit;
     while !rest.is_empty() {
         if left == 0 {
-            list.push_copy(alloc, rest)?;
+            list.push_copy(alloc, rest, ascii)?;
             return Ok(list);
         }
         let (word, after) = rest.split_at(word_len(rest));
-        list.push_copy(alloc, word)?;
+        list.push_copy(alloc, word, ascii)?;
         rest = skip_whitespace(after);
         left -= 1;
     }
@@ -101,21 +103,22 @@ fn last_word_start(text: &str) -> usize
 }
 
 // The last `limit` pieces, the last one first, and then the rest as one piece.
-fn words_from_right(alloc: Global, text: &str, limit: usize) -> PyResult<TextList>
+fn words_from_right(alloc: Global, text: &PyStr, limit: usize) -> PyResult<TextList>
     ensures ok { IfOk result (λ pieces.
-        map reverse pieces ≡ spec.split_whitespace limit (reverse (chars text.now))) }
+        map reverse pieces ≡ spec.split_whitespace limit (reverse text.now)) }
     ensures err { IsOkUnless result PyError.NoMemory }
 {
+    let ascii = text.is_ascii();
     let mut list = TextList::new(alloc);
-    let mut rest = drop_trailing_whitespace(text);
+    let mut rest = drop_trailing_whitespace(text.as_str());
     let mut left = limit;
     while !rest.is_empty() {
         if left == 0 {
-            list.push_copy(alloc, rest)?;
+            list.push_copy(alloc, rest, ascii)?;
             return Ok(list);
         }
         let (before, word) = rest.split_at(last_word_start(rest));
-        list.push_copy(alloc, word)?;
+        list.push_copy(alloc, word, ascii)?;
         rest = drop_trailing_whitespace(before);
         left -= 1;
     }
@@ -123,8 +126,8 @@ fn words_from_right(alloc: Global, text: &str, limit: usize) -> PyResult<TextLis
 }
 
 /// The last `limit` pieces, and before them the rest as one piece, in order of the text.
-pub(crate) fn rsplit_whitespace(alloc: Global, text: &str, limit: usize) -> PyResult<TextList>
-    ensures ok { IfOk result (λ pieces. pieces ≡ spec.rsplit_whitespace limit (chars text.now)) }
+pub(crate) fn rsplit_whitespace(alloc: Global, text: &PyStr, limit: usize) -> PyResult<TextList>
+    ensures ok { IfOk result (λ pieces. pieces ≡ spec.rsplit_whitespace limit text.now) }
     ensures err { IsOkUnless result PyError.NoMemory }
 {
     let mut list = words_from_right(alloc, text, limit)?;

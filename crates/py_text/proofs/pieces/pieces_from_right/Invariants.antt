@@ -1,12 +1,13 @@
-use Rattle.std.proofs.Common.{chars, map, reverse}
+use Rattle.std.proofs.Common.{◌≡◌, true, chars, map, reverse}
 use denote.Shadow.{shadow}
 use denote.Text.{Utf8}
+use Rattle.py_text.specs.Text.{all_ascii}
 use Rattle.py_text.specs.Pieces.{split}
 use Rattle.py_text.proofs.PieceLemmas.{Cutting}
 use Rattle.py_text.proofs.pieces.pieces_from_right.Given as goal
 
 abbrev pub invariant-loop-left : goal.invariant-loop-left
-invariant-loop-left l = record { utf8 : shadow (Utf8 l.rest); cutting : Cutting (reverse (chars l.sep)) (reverse (chars l.text)) (reverse (chars l.rest)) (map reverse l.list) (split l.limit (reverse (chars l.sep)) (reverse (chars l.text))) l.left }
+invariant-loop-left l = record { utf8 : shadow (Utf8 l.rest); ascii : l.ascii ≡ true → all_ascii (chars l.rest) ≡ true; cutting : Cutting (reverse (chars l.sep)) (reverse l.text) (reverse (chars l.rest)) (map reverse l.list) (split l.limit (reverse (chars l.sep)) (reverse l.text)) l.left }
 
 abbrev pub decreases-loop-left : goal.decreases-loop-left
 decreases-loop-left l = l.left
