@@ -1,6 +1,6 @@
 //! A text split at a separator, or at whitespace, into pieces.
 
-ghost use Rattle.std.specs.Prelude.{◌≡◌, true, ◌≢◌, ◌<◌, ◌++◌, ◌∷◌, ◌^◌, [], Some, length, map, reverse, chars, IfOk, IsOk, IsOkUnless, Err};
+ghost use Rattle.std.specs.Prelude.{◌≡◌, true, ◌≢◌, ◌<◌, ◌++◌, ◌∷◌, [], Some, length, map, reverse, chars, IfOk, IsOk, IsOkUnless, Err};
 ghost use Rattle.py_text.specs.Pieces.{limit, split, rsplit, split_by, rsplit_by};
 ghost use Rattle.py_text.specs.Text.{all_ascii};
 
@@ -19,12 +19,15 @@ pub struct SplitArgs {
     pub maxsplit: isize,
 }
 
-/// How many places are taken at most in a text of `len` code points; a negative `most` takes all.
-pub(crate) fn limit_of(len: usize, most: isize) -> usize
-    requires { len < 2 ^ 63 }
-    ensures { result ≡ limit len most }
+/// How many places are taken at most in a text; a negative `most` takes all.
+pub(crate) fn limit_of(text: &PyStr, most: isize) -> usize
+    ensures { result ≡ limit (length text.now) most }
 {
-    if most < 0 { len + 1 } else { most as usize }
+    if most < 0 {
+        text.place_count()
+    } else {
+        most as usize
+    }
 }
 
 // The list with one more piece last. With `ascii` all of it is ASCII.
@@ -110,7 +113,7 @@ impl PyStr {
         ensures ok { IfOk result (λ pieces.
             pieces ≡ split_by args.now.sep args.now.maxsplit self.now) }
     {
-        let limit = limit_of(self.len(), args.maxsplit);
+        let limit = limit_of(self, args.maxsplit);
         match &args.sep {
             None => whitespace::split_whitespace(alloc, self, limit),
             Some(sep) => {
@@ -134,7 +137,7 @@ impl PyStr {
         ensures ok { IfOk result (λ pieces.
             pieces ≡ rsplit_by args.now.sep args.now.maxsplit self.now) }
     {
-        let limit = limit_of(self.len(), args.maxsplit);
+        let limit = limit_of(self, args.maxsplit);
         match &args.sep {
             None => whitespace::rsplit_whitespace(alloc, self, limit),
             Some(sep) => {

@@ -1,6 +1,6 @@
 //! Texts joined, and parts of a text replaced.
 
-ghost use Rattle.std.specs.Prelude.{◌≡◌, ◌<◌, ◌^◌, ◌++◌, ◌+◌, length, take, chars, IfOk, OnOk, IsOkUnless, []};
+ghost use Rattle.std.specs.Prelude.{◌≡◌, ◌<◌, ◌++◌, ◌+◌, length, take, chars, IfOk, OnOk, IsOkUnless, []};
 ghost use Rattle.py_text.specs.Replacing.{limit_or_all, join, replace};
 
 use crate::list::TextList;
@@ -68,13 +68,12 @@ fn put(out: &mut PyStr, text: &str, old: &PyStr, new: &PyStr, limit: usize) -> P
 }
 
 // How many parts are replaced at most; with none or a negative number all.
-fn limit_or_all_of(len: usize, count: Option<isize>) -> usize
-    requires { len < 2 ^ 63 }
-    ensures { result ≡ limit_or_all len count }
+fn limit_or_all_of(text: &PyStr, count: Option<isize>) -> usize
+    ensures { result ≡ limit_or_all (length text.now) count }
 {
     match count {
-        Some(most) => limit_of(len, most),
-        None => len + 1,
+        Some(most) => limit_of(text, most),
+        None => text.place_count(),
     }
 }
 
@@ -135,7 +134,7 @@ impl PyStr {
         ensures err { IsOkUnless result PyError.NoMemory }
     {
         let text = self.as_str();
-        let limit = limit_or_all_of(self.len(), count);
+        let limit = limit_or_all_of(self, count);
         let room = String::with_capacity(alloc, text.len())?;
         let mut out = PyStr::from(room);
         put(&mut out, text, old, new, limit)?;

@@ -1,6 +1,6 @@
 //! A text: its code points, their count, and whether all are ASCII.
 
-ghost use Rattle.std.specs.Prelude.{◌≡◌, ◌≤◌, ◌==◌, [], ◌∷◌, ◌++◌, length, drop, chars, encode_utf8_all, slice_range, string_bytes, IfOk, OnOk, OnErr, IsOkUnless, true};
+ghost use Rattle.std.specs.Prelude.{◌≡◌, ◌≤◌, ◌+◌, ◌==◌, [], ◌∷◌, ◌++◌, length, drop, chars, encode_utf8_all, slice_range, string_bytes, IfOk, OnOk, OnErr, IsOkUnless, true};
 ghost use Rattle.std.specs.Str.{IsCharBoundary};
 ghost use Rattle.py_text.specs.Text.{all_ascii};
 
@@ -121,6 +121,13 @@ impl PyStr {
         ensures { result ≡ length self.now }
     {
         self.count
+    }
+
+    /// How many places there are, each before a code point or at the end.
+    pub(crate) fn place_count(&self) -> usize
+        ensures { result ≡ length self.now + 1 }
+    {
+        self.count + 1
     }
 
     /// Whether there is no code point.
