@@ -99,13 +99,14 @@ fn lists(rt: HostRuntime) -> Result<(), PyError> {
     Ok(())
 }
 
-// "ab", then "é", "c" and "d", each appended by another call.
+// "ab", then "é", "c" and "c", each appended by another call.
 fn appended(alloc: Global) -> PyResult<PyStr> {
+    let last = PyStr::from_char(alloc, 'c')?;
     let mut text = PyStr::with_capacity(alloc, 8)?;
     text.append_ascii("ab")?;
     text.append_char('é')?;
-    text.append_counted("c", 1)?;
-    text.append_text(&PyStr::from_char(alloc, 'd')?)?;
+    text.append_counted(last.as_str(), last.len())?;
+    text.append_text(&last)?;
     Ok(text)
 }
 
@@ -113,20 +114,26 @@ fn appended(alloc: Global) -> PyResult<PyStr> {
 fn built(rt: HostRuntime) -> Result<(), PyError> {
     let text = appended(rt.alloc())?;
     let points = text.to_chars(rt.alloc())?;
+    let same = PyStr::from_chars(rt.alloc(), &points)? == text;
     assert_eq!(rt;
-        (text.as_str(), text.len(), text.is_ascii()),
-        ("abécd", 5, false)
+        (text.as_str(), text.len(), text.is_ascii(), same),
+        ("abécc", 5, false, true)
     );
-    assert!(rt; PyStr::from_chars(rt.alloc(), &points)? == text);
     Ok(())
+}
+
+// The text "é", made in two ways of what is counted already.
+fn made_of_counted(alloc: Global, text: &PyStr) -> PyResult<(PyStr, PyStr)> {
+    let moved = String::from_str(alloc, text.as_str())?;
+    let copy = PyStr::copy_counted(alloc, text.as_str(), text.len())?;
+    Ok((PyStr::with_count(moved, text.len()), copy))
 }
 
 #[test]
 fn counted(rt: HostRuntime) -> Result<(), PyError> {
     let mut text = PyStr::new(rt.alloc());
     text.append("é")?;
-    let made = PyStr::with_count(String::from_str(rt.alloc(), "é")?, 1);
-    let copy = PyStr::copy_counted(rt.alloc(), "é", 1)?;
+    let (made, copy) = made_of_counted(rt.alloc(), &text)?;
     assert!(rt; made == text && copy == text);
     Ok(())
 }
