@@ -32,8 +32,8 @@ inside_or false h = refl
 inside_first : (c : ℕ) (bs rest : List ℕ) → bs ≡ encode_utf8 c ++ rest → NoStop bs → is_inside c ≡ true
 inside_first c bs rest e h =
     inside_or (is_stop c) (λ s.
-        h 0 (omega (arith, ap length e, length-append (encode_utf8 c) rest, length-encode c, len_utf8_bounds c))
-        (ap is_stop (byte_from_char bs rest c e (stop_small c s)) ∙ s))
+    h 0 (omega (arith, ap length e, length-append (encode_utf8 c) rest, length-encode c, len_utf8_bounds c))
+    (ap is_stop (byte_from_char bs rest c e (stop_small c s)) ∙ s))
 
 rest_clean : (c : ℕ) (bs rest : List ℕ) → bs ≡ encode_utf8 c ++ rest → NoStop bs → NoStop rest
 rest_clean c bs rest e h = λ k l s.
@@ -145,11 +145,11 @@ one_is : (m c : ℕ) → m < 128 → list_any (λ y. nat_eq y m) (encode_utf8 c)
 one_is m c l = elim (cases_lt c 128) [
   | inl small ↦ ap (list_any (λ y. nat_eq y m)) (encode_ascii c small) ∙ or_none (nat_eq c m)
   | inr large ↦
-    let other : nat_eq c m ≡ false = grind (arith, nat_tests) in
-    none_is m (encode_utf8 c) l (λ k lt. elim (cases_lt (get_or (encode_utf8 c) k 0) 128) [
-      | inl low ↦ absurd (omega (arith, inside_one c [] (encode_utf8 c) k (sym (append-nil (encode_utf8 c))) lt low))
-      | inr high ↦ high
-    ]) ∙ sym other
+      let other : nat_eq c m ≡ false = grind (arith, nat_tests) in
+      none_is m (encode_utf8 c) l (λ k lt. elim (cases_lt (get_or (encode_utf8 c) k 0) 128) [
+        | inl low ↦ absurd (omega (arith, inside_one c [] (encode_utf8 c) k (sym (append-nil (encode_utf8 c))) lt low))
+        | inr high ↦ high
+      ]) ∙ sym other
 ]
 
 bytes_any : (m : ℕ) (cs : List ℕ) → m < 128 → list_any (λ y. nat_eq y m) (encode_utf8_all cs) ≡ list_any (λ y. nat_eq y m) cs
