@@ -77,9 +77,13 @@ signed false n = pos n
 abbrev pub literal : ℕ → List ℕ → Option ℤ
 literal base cs = option_map (signed (read_sign cs).0) (unsigned base (read_sign cs).1)
 
--- 0, which leaves the choice to the prefix, or from 2 to 36
+-- the greatest base, whose digits are 0 to 9 and A to Z
+abbrev pub greatest_base : ℕ
+greatest_base = 36
+
+-- 0, which leaves the choice to the prefix, or from 2 to the greatest
 abbrev pub is_base : ℕ → Bool
-is_base base = (base == 0) || (nat_le 2 base && nat_le base 36)
+is_base base = (base == 0) || (nat_le 2 base && nat_le base greatest_base)
 
 abbrev pub literal_result : ℕ → Option ℤ → Result ℤ PyError
 literal_result base None = Err (InvalidLiteral base)

@@ -3,10 +3,14 @@ use Rattle.std.specs.Prelude.{ℕ, ℤ, pos, negsuc, ◌^◌, ◌<◌, ◌≤◌
 use Rattle.py_base.specs.declared.error.PyError.{PyError}
 use Rattle.py_base.specs.declared.error.PyError.TheVariants.{IntTooWide}
 
+-- how many binary digits an integer has beside its sign
+abbrev pub value_bits : ℕ
+value_bits = 127
+
 -- below -2^127 or above 2^127 - 1
 abbrev pub wide : ℤ → Bool
-wide (pos n) = nat_le (2 ^ 127) n
-wide (negsuc n) = nat_le (2 ^ 127) n
+wide (pos n) = nat_le (2 ^ value_bits) n
+wide (negsuc n) = nat_le (2 ^ value_bits) n
 
 -- the integer, or the error where it is too wide
 abbrev pub carried : ℤ → Result ℤ PyError
@@ -23,4 +27,4 @@ Gives (Some z) r = r ≡ Ok z
 
 -- r is the natural number n, or none exactly where n is too wide
 abbrev pub IsNarrow : ℕ → Option ℕ → Type 0
-IsNarrow n r = MatchOption r (2 ^ 127 ≤ n) (λ k. (k < 2 ^ 127) × (k ≡ n))
+IsNarrow n r = MatchOption r (2 ^ value_bits ≤ n) (λ k. (k < 2 ^ value_bits) × (k ≡ n))

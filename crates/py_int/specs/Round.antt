@@ -4,6 +4,10 @@ use Rattle.py_base.specs.declared.error.PyError.{PyError}
 use Rattle.py_int.specs.Bits.{is_odd}
 use Rattle.py_int.specs.Number.{Carries}
 
+-- the greatest power of ten below 2^127
+abbrev pub greatest_power : ℕ
+greatest_power = 38
+
 -- the integer nearest to n / u, ties to even
 abbrev pub nearest : ℕ → ℕ → ℕ
 nearest n u =

@@ -7,10 +7,17 @@ ghost use Rattle.py_base.specs.Reading.{find};
 ghost use Rattle.py_int.specs.Number.{carried};
 ghost use Rattle.py_int.specs.Literal as spec;
 ghost use Rattle.py_int.specs.Literal.{int_of, literal, literal_result, prefix_bases, saturated};
+ghost use Rattle.py_int.specs.Literal.{greatest_base};
 
 use crate::number::PyInt;
 use crate::round::give_sign;
 use py_base::{PyError, PyResult, trim_ascii_whitespace};
+
+// The greatest base, whose digits are 0 to 9 and A to Z.
+const GREATEST_BASE: u32 = 36;
+
+// The value of a byte that is no digit: no base has a digit of it.
+const NO_DIGIT: u8 = 36;
 
 fn read_sign(text: &[u8]) -> (bool, &[u8])
     ensures { (result.0, result.1.now) ≡ spec.read_sign text.now }
@@ -55,13 +62,13 @@ fn digit_of(byte: u8) -> u8
         b'0'..=b'9' => byte - b'0',
         b'A'..=b'Z' => byte - b'A' + 10,
         b'a'..=b'z' => byte - b'a' + 10,
-        _ => 36,
+        _ => NO_DIGIT,
     }
 }
 
 // `size` with one more digit, or 2^128 - 1 where that is less.
 fn grown(size: u128, base: u8, digit: u8) -> u128
-    requires { base ≤ 36 }
+    requires { base ≤ greatest_base }
     ensures { result ≡ min (size * base + digit) (2 ^ 128 - 1) }
 {
     if size < 1 << 120 {
@@ -76,7 +83,7 @@ fn grown(size: u128, base: u8, digit: u8) -> u128
 // fails with `InvalidLiteral` first.
 fn digits(text: &[u8], base: u8) -> Option<u128>
     requires some { 0 < base }
-    requires base { base ≤ 36 }
+    requires base { base ≤ greatest_base }
     ensures { result ≡ saturated (spec.digits base text.now) }
 {
     let mut size = 0;
@@ -112,7 +119,7 @@ fn begins_with_zero(text: &[u8]) -> bool
 }
 
 fn plain_digits(text: &[u8], base: u8) -> Option<u128>
-    requires { base ≤ 36 }
+    requires { base ≤ greatest_base }
     ensures { result ≡ saturated (spec.plain_digits base text.now) }
 {
     if base != 0 {
@@ -126,7 +133,7 @@ fn plain_digits(text: &[u8], base: u8) -> Option<u128>
 }
 
 fn unsigned(text: &[u8], base: u8) -> Option<u128>
-    requires { base ≤ 36 }
+    requires { base ≤ greatest_base }
     ensures { result ≡ saturated (spec.unsigned base text.now) }
 {
     match prefix_at(text, base) {
@@ -146,7 +153,7 @@ fn signed(negative: bool, size: u128) -> PyResult<PyInt>
 }
 
 fn read_literal(text: &[u8], base: u8) -> PyResult<PyInt>
-    requires { base ≤ 36 }
+    requires { base ≤ greatest_base }
     ensures { result ≡ literal_result base (literal base text.now) }
 {
     let (negative, rest) = read_sign(text);
@@ -163,7 +170,7 @@ impl PyInt {
     pub fn try_int_radix(text: &[u8], base: u32) -> PyResult<PyInt>
         ensures { result ≡ int_of base text.now }
     {
-        if base > 36 || base == 1 {
+        if base > GREATEST_BASE || base == 1 {
             return Err(PyError::BadBase);
         }
         read_literal(trim_ascii_whitespace(text), base as u8)

@@ -12,6 +12,9 @@ use std::alloc::Global;
 use std::fmt;
 use std::marker::Model;
 
+/// How many binary digits an integer has beside its sign.
+pub(crate) const VALUE_BITS: i128 = 127;
+
 /// An integer from -2^127 to 2^127 - 1, Python's `int`. It prints in decimal, and its equality,
 /// order and hash are those of the integer.
 #[derive(Clone, Copy, Debug, PartialEq, Eq, PartialOrd, Ord, Hash)]

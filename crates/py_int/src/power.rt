@@ -1,4 +1,5 @@
-//! Powers: `**` of "Numeric Types" and `pow` of "Built-in Functions" of the Python Library Reference.
+//! Powers: `**` of "Numeric Types" and `pow` of "Built-in Functions" of the Python Library
+//! Reference.
 
 ghost use Rattle.std.specs.Prelude.{◌≡◌, ◌≢◌, ◌≤◌, ℤ, pos, ◌<ℤ◌, ◌≤ℤ◌, IfSome, IfNone, IfOk, IfErr, Err, unsigned_abs};
 ghost use Rattle.py_base.specs.declared.error.PyError.TheVariants.{NotCarried, NotInvertible};
@@ -9,7 +10,7 @@ ghost use Rattle.py_int.specs.Power.{power, IsInverse, IsInversePower, IsModular
 use crate::arithmetic::carry;
 use crate::inverse::inverse_under;
 use crate::modular::pow_under;
-use crate::number::PyInt;
+use crate::number::{PyInt, VALUE_BITS};
 use crate::residue::{magnitude_of, rest_by, signed_rest};
 use py_base::{CarryKind, PyError, PyResult};
 
@@ -82,7 +83,7 @@ impl PyInt {
             Err(PyError::NotCarried(CarryKind::NegativePower))
         } else if value.unsigned_abs() <= 1 {
             Ok(unit_power(value, exp as u128))
-        } else if exp > 127 {
+        } else if exp > VALUE_BITS {
             Err(PyError::IntTooWide)
         } else {
             carry(value.checked_pow(exp as u32))

@@ -4,10 +4,13 @@
 ghost use Rattle.std.specs.Prelude.{◌≡◌, ◌<◌, ◌≤◌, ◌*◌, ◌^◌, ℤ, pos, neg_ℤ, ◌<ℤ◌, ◌≤ℤ◌, IfSome, IfNone, Ok, Err};
 ghost use Rattle.std.specs.Prelude.{unsigned_abs};
 ghost use Rattle.py_int.specs.Number.{Carries};
-ghost use Rattle.py_int.specs.Round.{IsCut, nearest, with_sign_of};
+ghost use Rattle.py_int.specs.Round.{IsCut, greatest_power, nearest, with_sign_of};
 
 use crate::number::PyInt;
 use py_base::{PyError, PyResult};
+
+// The greatest power of ten below 2^127.
+const GREATEST_POWER: u128 = 38;
 
 // The multiple of `unit` nearest to `size`, ties to the even quotient.
 fn nearest_multiple(size: u128, unit: u128) -> u128
@@ -27,7 +30,7 @@ fn nearest_multiple(size: u128, unit: u128) -> u128
 
 // 10^digits, which is below 2^127.
 fn power_of_ten(digits: u32) -> u128
-    requires { digits ≤ 38 }
+    requires { digits ≤ greatest_power }
     ensures value { result ≡ 10 ^ digits }
     ensures some { 0 < result }
     ensures small { result < 2 ^ 127 }
@@ -74,7 +77,7 @@ impl PyInt {
         }
         let value = self.as_i128();
         let digits = count.unsigned_abs();
-        if digits > 38 {
+        if digits > GREATEST_POWER {
             return Ok(PyInt::from(0i128));
         }
         let unit = power_of_ten(digits as u32);

@@ -1,18 +1,16 @@
 //! Shifts: "Bitwise Operations on Integer Types" of the Python Library Reference.
 
-ghost use Rattle.std.specs.Prelude.{◌≡◌, ◌<◌, ◌^◌, ℤ, pos, ◌<ℤ◌, ◌≤ℤ◌, Ok, Err};
+ghost use Rattle.std.specs.Prelude.{◌≡◌, ◌<◌, ◌≤◌, ◌^◌, ℤ, pos, ◌<ℤ◌, ◌≤ℤ◌, Ok, Err};
 ghost use Rattle.std.specs.Prelude.{unsigned_abs};
 ghost use Rattle.py_base.specs.declared.error.PyError.TheVariants.{NegativeShift};
+ghost use Rattle.py_int.specs.Number.{value_bits};
 ghost use Rattle.py_int.specs.Shift.{IsShiftedLeft, IsShiftedRight, shifted_right};
 
-use crate::number::PyInt;
+use crate::number::{PyInt, VALUE_BITS};
 use py_base::{PyError, PyResult};
 
-// 2^127 has one digit more than the greatest integer.
-const DIGITS: i128 = 127;
-
 fn power_of_two(exponent: u32) -> PyInt
-    requires { exponent < 127 }
+    requires { exponent < value_bits }
     ensures { result ≡ pos (2 ^ exponent) }
 {
     PyInt::from(1i128 << exponent)
@@ -20,7 +18,7 @@ fn power_of_two(exponent: u32) -> PyInt
 
 // `value >> count`.
 pub(crate) fn down(value: i128, count: u32) -> PyInt
-    requires { count < 128 }
+    requires { count ≤ value_bits }
     ensures { result ≡ shifted_right value count }
 {
     PyInt::from(value >> count)
@@ -38,9 +36,9 @@ impl PyInt {
             Err(PyError::NegativeShift)
         } else if value == 0 {
             Ok(*self)
-        } else if count > DIGITS {
+        } else if count > VALUE_BITS {
             Err(PyError::IntTooWide)
-        } else if count < DIGITS {
+        } else if count < VALUE_BITS {
             self.mul(power_of_two(count as u32))
         } else if value == -1 {
             Ok(PyInt::from(i128::MIN))
@@ -49,7 +47,7 @@ impl PyInt {
         }
     }
 
-    /// `bits << self` with `bits` as the base.
+    /// `base << self`.
     pub fn rlshift(&self, base: PyInt) -> PyResult<PyInt>
         ensures negative { self.now <ℤ pos 0 → result ≡ Err NegativeShift }
         ensures value { IsShiftedLeft base self.now result }
@@ -66,8 +64,8 @@ impl PyInt {
         let count = bits.as_i128();
         if count < 0 {
             Err(PyError::NegativeShift)
-        } else if count > DIGITS {
-            Ok(down(self.as_i128(), 127))
+        } else if count > VALUE_BITS {
+            Ok(down(self.as_i128(), VALUE_BITS as u32))
         } else {
             Ok(down(self.as_i128(), count as u32))
         }

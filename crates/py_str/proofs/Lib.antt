@@ -1,8 +1,10 @@
+pub mod KeptLemmas
 pub mod LawLemmas
 pub mod PadLemmas
 pub mod PassingLemmas
 pub mod PrintableLemmas
 pub mod PushingLemmas
 pub mod QuoteLemmas
+pub mod StopLemmas
 pub mod TabsLemmas
 pub mod TestsOfLemmas

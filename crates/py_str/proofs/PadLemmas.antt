@@ -3,7 +3,7 @@ use Rattle.std.proofs.Common.{◌≡◌, ◌∙◌, ℕ, Bool, true, false, if�
 use Rattle.std.specs.Char.{encode_utf8}
 use Rattle.std.proofs.lemmas.List.{nil_from_length}
 use Rattle.std.proofs.lemmas.Str.{chars_past_char, chars-nil}
-use Rattle.py_str.specs.Pad.{run, short_by, is_sign, sign_parts, zfill}
+use Rattle.py_str.specs.Pad.{is_sign, sign_parts}
 
 pub sign_yes : (bs rest next : List ℕ) (c : ℕ) → IsUtf8 bs → bs ≡ encode_utf8 c ++ rest → is_sign c ≡ true → next ≡ rest → sign_parts (chars bs) ≡ (c ∷ [], chars next)
 sign_yes bs rest next c u e h n =
@@ -22,7 +22,3 @@ pub zeros_pushed : (old one two three L p q r : List ℕ) → sign_parts L ≡ (
 zeros_pushed old one two three L p q r s o w h =
     h ∙ ap (λ (x : List ℕ). x ++ q) (w ∙ ap (λ (x : List ℕ). x ++ r) o) ∙ append_assoc (old ++ p) r q ∙ append_assoc old p (r ++ q)
     ∙ ap (λ (x : List ℕ × List ℕ). old ++ (x.0 ++ (r ++ x.1))) (sym s)
-
-pub zeros_are : (L text : List ℕ) (zeros width : ℕ) → L ≡ text → zeros ≡ short_by width text → (sign_parts L).0 ++ (run zeros 48 ++ (sign_parts L).1) ≡ zfill width text
-zeros_are L text zeros width l z =
-    ap (λ (x : List ℕ). (sign_parts x).0 ++ (run zeros 48 ++ (sign_parts x).1)) l ∙ ap (λ (n : ℕ). (sign_parts text).0 ++ (run n 48 ++ (sign_parts text).1)) z

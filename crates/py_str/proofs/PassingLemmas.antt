@@ -7,18 +7,9 @@ use Rattle.std.proofs.lemmas.List.Sums.{take_while-cons}
 use Rattle.std.proofs.lemmas.Str.{chars-append, chars_past_char, chars-nil, IsUtf8-append, IsUtf8-past_char, IsUtf8-nil, IsUtf8-encode, IsUtf8-take, IsCharBoundary-at_seam, length-encode}
 use Rattle.py_base.specs.Chars.Whitespace.{skip_while}
 use Rattle.py_text.proofs.PointLemmas.{first_scalar}
+use Rattle.py_str.specs.Passing.{IsPassed}
 
--- the first bytes of s, before rest, are characters that pass q
-pub record Passed (q : ℕ → Bool) (s rest : List ℕ) (at : ℕ) : Type 0 where
-  pub front : List ℕ
-  pub parts : s ≡ front ++ rest
-  pub front_utf8 : IsUtf8 front
-  pub rest_utf8 : IsUtf8 rest
-  pub place : length front ≡ at
-  pub taken : take_while q (chars s) ≡ chars front ++ take_while q (chars rest)
-  pub skipped : skip_while q (chars s) ≡ skip_while q (chars rest)
-
-pub passed_none : (q : ℕ → Bool) (s : List ℕ) → IsUtf8 s → Passed q s s 0
+pub passed_none : (q : ℕ → Bool) (s : List ℕ) → IsUtf8 s → IsPassed q s s 0
 passed_none q s u = record { front = []; parts = refl; front_utf8 = IsUtf8-nil; rest_utf8 = u; place = refl; taken = ap (λ (l : List ℕ). l ++ take_while q (chars s)) (sym chars-nil); skipped = refl }
 
 take_yes : (q : ℕ → Bool) (c : ℕ) (L : List ℕ) → q c ≡ true → take_while q (c ∷ L) ≡ c ∷ take_while q L
@@ -36,7 +27,7 @@ skip_no q c L h = ap (λ b. if b then skip_while q L else c ∷ L) h
 one_point : (c : ℕ) → IsUtf8 (encode_utf8 c) → chars (encode_utf8 c) ≡ c ∷ []
 one_point c u = chars_past_char (encode_utf8 c) [] c u (sym (append-nil (encode_utf8 c))) ∙ ap (λ (l : List ℕ). c ∷ l) chars-nil
 
-pub passed_more : (q : ℕ → Bool) (s rest next : List ℕ) (at c : ℕ) → q c ≡ true → rest ≡ encode_utf8 c ++ next → Passed q s rest at → Passed q s next (at + len_utf8 c)
+pub passed_more : (q : ℕ → Bool) (s rest next : List ℕ) (at c : ℕ) → q c ≡ true → rest ≡ encode_utf8 c ++ next → IsPassed q s rest at → IsPassed q s next (at + len_utf8 c)
 passed_more q s rest next at c h e p =
     let one : IsUtf8 (encode_utf8 c) = first_scalar rest next c p.rest_utf8 e in
     let points : chars rest ≡ c ∷ chars next = chars_past_char rest next c p.rest_utf8 e in
@@ -52,45 +43,45 @@ passed_more q s rest next at c h e p =
       skipped = p.skipped ∙ ap (skip_while q) points ∙ skip_yes q c (chars next) h;
     }
 
-pub passed_within : (q : ℕ → Bool) (s rest : List ℕ) (at : ℕ) → Passed q s rest at → at + length rest ≡ length s
+pub passed_within : (q : ℕ → Bool) (s rest : List ℕ) (at : ℕ) → IsPassed q s rest at → at + length rest ≡ length s
 passed_within q s rest at p = omega (arith, p.place, length-append p.front rest, ap length p.parts)
 
-pub passed_place : (q : ℕ → Bool) (s rest : List ℕ) (at : ℕ) → Passed q s rest at → IsCharBoundary s at
+pub passed_place : (q : ℕ → Bool) (s rest : List ℕ) (at : ℕ) → IsPassed q s rest at → IsCharBoundary s at
 passed_place q s rest at p = rw (← p.place) (IsCharBoundary-at_seam s p.front rest p.parts p.rest_utf8)
 
-front_is : (q : ℕ → Bool) (s rest : List ℕ) (at : ℕ) (p : Passed q s rest at) → take at s ≡ p.front
+front_is : (q : ℕ → Bool) (s rest : List ℕ) (at : ℕ) (p : IsPassed q s rest at) → take at s ≡ p.front
 front_is q s rest at p = ap (λ n. take n s) (sym p.place) ∙ ap (take (length p.front)) p.parts ∙ take-append_seam p.front rest
 
-pub stop_taken : (q : ℕ → Bool) (s rest next : List ℕ) (at c : ℕ) → q c ≡ false → rest ≡ encode_utf8 c ++ next → Passed q s rest at → take_while q (chars s) ≡ chars (take at s)
+pub stop_taken : (q : ℕ → Bool) (s rest next : List ℕ) (at c : ℕ) → q c ≡ false → rest ≡ encode_utf8 c ++ next → IsPassed q s rest at → take_while q (chars s) ≡ chars (take at s)
 stop_taken q s rest next at c h e p =
     p.taken ∙ ap (λ (l : List ℕ). chars p.front ++ take_while q l) (chars_past_char rest next c p.rest_utf8 e) ∙ ap (λ (l : List ℕ). chars p.front ++ l) (take_no q c (chars next) h)
     ∙ append-nil (chars p.front) ∙ sym (ap chars (front_is q s rest at p))
 
-pub stop_skipped : (q : ℕ → Bool) (s rest next : List ℕ) (at c : ℕ) → q c ≡ false → rest ≡ encode_utf8 c ++ next → Passed q s rest at → skip_while q (chars s) ≡ c ∷ chars next
+pub stop_skipped : (q : ℕ → Bool) (s rest next : List ℕ) (at c : ℕ) → q c ≡ false → rest ≡ encode_utf8 c ++ next → IsPassed q s rest at → skip_while q (chars s) ≡ c ∷ chars next
 stop_skipped q s rest next at c h e p = p.skipped ∙ ap (skip_while q) (chars_past_char rest next c p.rest_utf8 e) ∙ skip_no q c (chars next) h
 
-pub stop_utf8 : (q : ℕ → Bool) (s rest next : List ℕ) (at c : ℕ) → rest ≡ encode_utf8 c ++ next → Passed q s rest at → IsUtf8 next
+pub stop_utf8 : (q : ℕ → Bool) (s rest next : List ℕ) (at c : ℕ) → rest ≡ encode_utf8 c ++ next → IsPassed q s rest at → IsUtf8 next
 stop_utf8 q s rest next at c e p = IsUtf8-past_char rest next c p.rest_utf8 e
 
 no_points : (bs : List ℕ) → length bs ≡ 0 → chars bs ≡ []
 no_points bs h = ap chars (nil_from_length bs h) ∙ chars-nil
 
-pub all_taken : (q : ℕ → Bool) (s rest : List ℕ) (at : ℕ) → length rest ≡ 0 → Passed q s rest at → take_while q (chars s) ≡ chars s
+pub all_taken : (q : ℕ → Bool) (s rest : List ℕ) (at : ℕ) → length rest ≡ 0 → IsPassed q s rest at → take_while q (chars s) ≡ chars s
 all_taken q s rest at h p =
     p.taken ∙ ap (λ (l : List ℕ). chars p.front ++ take_while q l) (no_points rest h) ∙ append-nil (chars p.front)
     ∙ ap chars (sym (append-nil p.front) ∙ ap (λ (l : List ℕ). p.front ++ l) (sym (nil_from_length rest h)) ∙ sym p.parts)
 
-pub none_skipped : (q : ℕ → Bool) (s rest : List ℕ) (at : ℕ) → length rest ≡ 0 → Passed q s rest at → skip_while q (chars s) ≡ []
+pub none_skipped : (q : ℕ → Bool) (s rest : List ℕ) (at : ℕ) → length rest ≡ 0 → IsPassed q s rest at → skip_while q (chars s) ≡ []
 none_skipped q s rest at h p = p.skipped ∙ ap (skip_while q) (no_points rest h)
 
-rest_is : (q : ℕ → Bool) (s rest : List ℕ) (at : ℕ) (p : Passed q s rest at) → drop at s ≡ rest
+rest_is : (q : ℕ → Bool) (s rest : List ℕ) (at : ℕ) (p : IsPassed q s rest at) → drop at s ≡ rest
 rest_is q s rest at p = ap (λ n. drop n s) (sym p.place) ∙ ap (drop (length p.front)) p.parts ∙ drop-append_seam p.front rest
 
 -- what is left from the first one that fails
-pub left_stop : (q : ℕ → Bool) (s rest next : List ℕ) (at c : ℕ) → q c ≡ false → rest ≡ encode_utf8 c ++ next → Passed q s rest at → chars (drop at s) ≡ skip_while q (chars s)
+pub left_stop : (q : ℕ → Bool) (s rest next : List ℕ) (at c : ℕ) → q c ≡ false → rest ≡ encode_utf8 c ++ next → IsPassed q s rest at → chars (drop at s) ≡ skip_while q (chars s)
 left_stop q s rest next at c h e p = ap chars (rest_is q s rest at p) ∙ chars_past_char rest next c p.rest_utf8 e ∙ sym (stop_skipped q s rest next at c h e p)
 
-pub left_end : (q : ℕ → Bool) (s rest : List ℕ) (at : ℕ) → length rest ≡ 0 → Passed q s rest at → chars (drop at s) ≡ skip_while q (chars s)
+pub left_end : (q : ℕ → Bool) (s rest : List ℕ) (at : ℕ) → length rest ≡ 0 → IsPassed q s rest at → chars (drop at s) ≡ skip_while q (chars s)
 left_end q s rest at h p = ap chars (rest_is q s rest at p) ∙ no_points rest h ∙ sym (none_skipped q s rest at h p)
 
 -- the last bytes of s, after rest, are characters that pass q

@@ -1,5 +1,6 @@
 -- Tabs expanded, in runs.
-use Rattle.std.proofs.Common.{◌≡◌, ◌∙◌, ◌+◌, ◌≤◌, ℕ, zero, suc, Bool, true, false, not, ◌||◌, nat_eq, if◌then◌else◌, List, [], ◌∷◌, ◌++◌, length, take_while, sym, ap, refl, append_assoc, append-nil, arith, length-append}
+use Rattle.std.proofs.Common.{◌≡◌, ◌∙◌, ◌+◌, ◌-◌, ◌≤◌, ℕ, zero, suc, Bool, true, false, not, ◌||◌, nat_eq, if◌then◌else◌, List, [], ◌∷◌, ◌++◌, length, take_while, sym, ap, refl, append_assoc, append-nil, arith, length-append}
+use Rattle.std.proofs.lemmas.Bool.Decides.{nat_tests}
 use Rattle.std.proofs.lemmas.List.Sums.{take_while-cons}
 use Rattle.py_base.specs.Chars.Whitespace.{skip_while}
 use Rattle.py_str.specs.Pad.{run}
@@ -78,9 +79,34 @@ pub run_length : (n c : ℕ) → length (run n c) ≡ n
 run_length zero c = refl
 run_length (suc n) c = omega (arith, run_length n c)
 
--- a column is not past the text
-pub column_within : (new old mid : List ℕ) (column n c : ℕ) → mid ≡ old → new ≡ mid ++ run n c → column ≤ length old → column + n ≤ length new
-column_within new old mid column n c e h b = omega (arith, ap length e, ap length h, length-append mid (run n c), run_length n c)
+is_nine : (c : ℕ) → c ≡ 9 → nat_eq c 9 ≡ true
+is_nine c h = grind (arith, nat_tests)
 
-pub front_within : (mid old front : List ℕ) (column n : ℕ) → mid ≡ old ++ front → n ≡ length front → column ≤ length old → column + n ≤ length mid
-front_within mid old front column n e h b = omega (arith, ap length e, h, length-append old front)
+is_other : (c : ℕ) → (c ≡ 9 → ⊥) → nat_eq c 9 ≡ false
+is_other c h = grind (arith, nat_tests)
+
+-- a tab on a line that begins at b
+pub tab_more : (size b k c : ℕ) (old new back : List ℕ) → c ≡ 9 → b ≤ length old → k ≡ gap size (length old - b) → new ≡ old ++ run k 32
+    → new ++ expanded_at size (length new - b) back ≡ old ++ expanded_at size (length old - b) (c ∷ back)
+tab_more size b k c old new back h le g n =
+    let column = length old - b in
+    let made : new ≡ old ++ run (gap size column) 32 = n ∙ ap (λ (i : ℕ). old ++ run i 32) g in
+    ap (λ (i : ℕ). new ++ expanded_at size i back) {x = length new - b} {y = column + gap size column}
+    (omega (arith, ap length made, length-append old (run (gap size column) 32), run_length (gap size column) 32))
+    ∙ tab_pushed size column c old new back (is_nine c h) made
+
+-- CR or LF, after which a line begins at the end
+pub end_more : (size b next c : ℕ) (old new back : List ℕ) → is_inside c ≡ false → (c ≡ 9 → ⊥) → new ≡ old ++ c ∷ [] → next ≡ length new
+    → new ++ expanded_at size (length new - next) back ≡ old ++ expanded_at size (length old - b) (c ∷ back)
+end_more size b next c old new back i h n e =
+    ap (λ (k : ℕ). new ++ expanded_at size k back) {x = length new - next} {y = 0} (omega (arith, e)) ∙ end_pushed size (length old - b) c old new back i (is_other c h) n
+
+-- one run on a line that begins at b, and what is at its end
+pub line_more : (size b next c : ℕ) (L front back out mid new whole : List ℕ)
+    → take_while is_inside L ≡ front → skip_while is_inside L ≡ c ∷ back → mid ≡ out ++ front → b ≤ length out
+    → new ++ expanded_at size (length new - next) back ≡ mid ++ expanded_at size (length mid - b) (c ∷ back)
+    → out ++ expanded_at size (length out - b) L ≡ whole → new ++ expanded_at size (length new - next) back ≡ whole
+line_more size b next c L front back out mid new whole t s m le e h =
+    expanding_more size (length out - b) (length front) (length new - next) c L front back out mid new whole t s refl m
+    (e ∙ ap (λ (k : ℕ). mid ++ expanded_at size k (c ∷ back)) {x = length mid - b} {y = (length out - b) + length front} (omega (arith, ap length m, length-append out front)))
+    h

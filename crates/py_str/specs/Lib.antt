@@ -2,7 +2,7 @@ pub mod ClassRows
 pub mod Codec
 pub mod Laws
 pub mod Pad
-pub mod Pushing
+pub mod Passing
 pub mod Quote
 pub mod Rows
 pub mod Strip

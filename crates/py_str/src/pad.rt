@@ -1,11 +1,11 @@
 //! Texts filled up to a width.
 
-ghost use Rattle.std.specs.Prelude.{◌≡◌, ◌∷◌, ◌++◌, [], chars, option_copied, Some, None, OnOk, IfOk, IfErr, IsOkUnless, MatchOption};
+ghost use Rattle.std.specs.Prelude.{◌≡◌, ◌∷◌, ◌++◌, [], chars, option_copied};
+ghost use Rattle.std.specs.Prelude.{Some, None, OnOk, IfOk, IfErr, IsOkUnless, MatchOption};
 ghost use Rattle.py_str.specs.Pad as spec;
 ghost use Rattle.py_str.specs.Pad.{IsPadded, IsPadError};
-ghost use Rattle.py_str.specs.Pushing.{points};
 
-use crate::pushing::{push_char, push_run, push_text};
+use crate::pushing::push_run;
 use py_base::{PyError, PyResult};
 use py_text::PyStr;
 use std::alloc::Global;
@@ -52,11 +52,11 @@ fn padded(alloc: Global, text: &PyStr, fill: char, left: usize, right: usize) ->
     ensures err { IsOkUnless result PyError.NoMemory }
 {
     let bytes = room(text.byte_len(), left.saturating_add(right), fill)?;
-    let mut out = String::with_capacity(alloc, bytes)?;
+    let mut out = PyStr::with_capacity(alloc, bytes)?;
     push_run(alloc, &mut out, fill, left)?;
-    push_text(&mut out, text.as_str())?;
+    out.append_text(text)?;
     push_run(alloc, &mut out, fill, right)?;
-    Ok(PyStr::from(out))
+    Ok(out)
 }
 
 // The left part of a fill.
@@ -141,21 +141,20 @@ fn after_sign(text: &str) -> Option<(char, &str)>
     }
 }
 
-fn push_zero_filled(alloc: Global, out: &mut String, zeros: usize, text: &str) -> PyResult<()>
-    ensures ok { OnOk result (points out.new ≡ points out.old
-        ++ spec.after_sign zeros (chars text.now)) }
+fn push_zero_filled(alloc: Global, out: &mut PyStr, zeros: usize, text: &PyStr) -> PyResult<()>
+    ensures ok { OnOk result (out.new ≡ out.old ++ spec.after_sign zeros text.now) }
     ensures err { IsOkUnless result PyError.NoMemory }
 {
-    match after_sign(text) {
+    match after_sign(text.as_str()) {
         Some((sign, rest)) => {
-            push_char(out, sign)?;
+            out.append_char(sign)?;
             push_run(alloc, out, '0', zeros)?;
-            push_text(out, rest)?;
+            out.append(rest)?;
             Ok(())
         }
         None => {
             push_run(alloc, out, '0', zeros)?;
-            push_text(out, text)?;
+            out.append_text(text)?;
             Ok(())
         }
     }
@@ -168,7 +167,7 @@ pub(crate) fn zfill(text: &PyStr, alloc: Global, width: isize) -> PyResult<PyStr
 {
     let zeros = width_of(width).saturating_sub(text.len());
     let bytes = room(text.byte_len(), zeros, '0')?;
-    let mut out = String::with_capacity(alloc, bytes)?;
-    push_zero_filled(alloc, &mut out, zeros, text.as_str())?;
-    Ok(PyStr::from(out))
+    let mut out = PyStr::with_capacity(alloc, bytes)?;
+    push_zero_filled(alloc, &mut out, zeros, text)?;
+    Ok(out)
 }

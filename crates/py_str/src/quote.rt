@@ -1,15 +1,15 @@
 //! Texts in quotes, as `repr` and `ascii` give them.
 
-ghost use Rattle.std.specs.Prelude.{◌≡◌, ◌∷◌, ◌++◌, ◌<◌, ◌==◌, [], chars, take_while, length, IsUtf8, OnOk, IfOk, IfSome, IsOkUnless, MatchOption};
+ghost use Rattle.std.specs.Prelude.{◌≡◌, ◌∷◌, ◌++◌, ◌<◌, ◌==◌, [], Bool, chars, take_while, drop, length};
+ghost use Rattle.std.specs.Prelude.{IsUtf8, OnOk, IfOk, IfSome, IsOkUnless, MatchOption};
 ghost use Rattle.std.specs.Char.{digit_char};
 ghost use Rattle.std.specs.List.{list_any};
 ghost use Rattle.py_base.specs.Chars.Classes.{between};
 ghost use Rattle.py_base.specs.Chars.Quoting as spec;
 ghost use Rattle.py_base.specs.Chars.Whitespace.{skip_while};
-ghost use Rattle.py_str.specs.Pushing.{points};
-ghost use Rattle.py_str.specs.Quote.{plain_of, keeps, text_ascii};
+ghost use Rattle.py_str.specs.Passing.{IsPassed};
+ghost use Rattle.py_str.specs.Quote.{plain_of, keeps, is_kept, text_ascii};
 
-use crate::pushing::{push_char, push_text};
 use py_base::{PyError, PyResult, is_printable};
 use py_text::{PyBytes, PyStr};
 use std::alloc::Global;
@@ -42,8 +42,31 @@ fn is_kept(ascii: bool, quote: char, c: char) -> bool
     is_plain(ascii, c) && !(c == quote || c == '\\' || c == '\n' || c == '\r' || c == '\t')
 }
 
+// Whether the byte is an ASCII character that is written as it is.
+fn is_kept_byte(quote: char, byte: u8) -> bool
+    ensures { result ≡ is_kept quote (between 32 126 byte) byte }
+{
+    let c = char::from(byte);
+    is_plain_ascii(c) && !(c == quote || c == '\\' || c == '\n' || c == '\r' || c == '\t')
+}
+
+// How many bytes at the start are ASCII characters that are written as they are.
+fn kept_ascii(text: &str, quote: char) -> usize
+    ensures { (ascii : Bool) → IsPassed (keeps ascii quote) text.now (drop result text.now) result }
+{
+    let bytes = text.as_bytes();
+    let mut at = 0;
+    'bytes: while at < bytes.len() {
+        if !is_kept_byte(quote, bytes[at]) {
+            return at;
+        }
+        at += 1;
+    }
+    at
+}
+
 // The text before the first character that is not written as it is, that character, and the text
-// after it.
+// after it. ASCII at the start is walked over by bytes.
 fn first_escaped(text: &str, ascii: bool, quote: char) -> Option<(&str, char, &str)>
     ensures text { IfSome result (λ p. IsUtf8 p.2.now) }
     ensures front { MatchOption result
@@ -53,8 +76,8 @@ fn first_escaped(text: &str, ascii: bool, quote: char) -> Option<(&str, char, &s
         (λ p. skip_while (keeps ascii quote) (chars text.now) ≡ p.1 ∷ chars p.2.now) }
     ensures shorter { IfSome result (λ p. length p.2.now < length text.now) }
 {
-    let mut rest = text.chars();
-    let mut at = 0;
+    let mut at = kept_ascii(text, quote);
+    let mut rest = text[at..].chars();
     'chars: while let Some(c) = rest.next() {
         if !is_kept(ascii, quote, c) {
             return Some((&text[..at], c, rest.as_str()));
@@ -71,19 +94,19 @@ fn hex_digit(digit: u32) -> char
     char::from_digit(digit, 16).unwrap()
 }
 
-fn push_hex_2(out: &mut String, code: u32) -> PyResult<()>
+fn push_hex_2(out: &mut PyStr, code: u32) -> PyResult<()>
     requires { code < 256 }
-    ensures ok { OnOk result (points out.new ≡ points out.old ++ spec.hex_2 code) }
+    ensures ok { OnOk result (out.new ≡ out.old ++ spec.hex_2 code) }
     ensures err { IsOkUnless result PyError.NoMemory }
 {
-    push_char(out, hex_digit(code / 16))?;
-    push_char(out, hex_digit(code % 16))?;
+    out.append_char(hex_digit(code / 16))?;
+    out.append_char(hex_digit(code % 16))?;
     Ok(())
 }
 
-fn push_hex_4(out: &mut String, code: u32) -> PyResult<()>
+fn push_hex_4(out: &mut PyStr, code: u32) -> PyResult<()>
     requires { code < 65536 }
-    ensures ok { OnOk result (points out.new ≡ points out.old ++ spec.hex_4 code) }
+    ensures ok { OnOk result (out.new ≡ out.old ++ spec.hex_4 code) }
     ensures err { IsOkUnless result PyError.NoMemory }
 {
     push_hex_2(out, code / 256)?;
@@ -91,8 +114,8 @@ fn push_hex_4(out: &mut String, code: u32) -> PyResult<()>
     Ok(())
 }
 
-fn push_hex_8(out: &mut String, code: u32) -> PyResult<()>
-    ensures ok { OnOk result (points out.new ≡ points out.old ++ spec.hex_8 code) }
+fn push_hex_8(out: &mut PyStr, code: u32) -> PyResult<()>
+    ensures ok { OnOk result (out.new ≡ out.old ++ spec.hex_8 code) }
     ensures err { IsOkUnless result PyError.NoMemory }
 {
     push_hex_4(out, code / 65536)?;
@@ -101,18 +124,18 @@ fn push_hex_8(out: &mut String, code: u32) -> PyResult<()>
 }
 
 // A backslash and a letter.
-fn push_escape(out: &mut String, letter: char) -> PyResult<()>
-    ensures ok { OnOk result (points out.new ≡ points out.old ++ 92 ∷ letter ∷ []) }
+fn push_escape(out: &mut PyStr, letter: char) -> PyResult<()>
+    ensures ok { OnOk result (out.new ≡ out.old ++ 92 ∷ letter ∷ []) }
     ensures err { IsOkUnless result PyError.NoMemory }
 {
-    push_char(out, '\\')?;
-    push_char(out, letter)?;
+    out.append_char('\\')?;
+    out.append_char(letter)?;
     Ok(())
 }
 
 // The shortest escape that holds the number.
-fn push_number(out: &mut String, code: u32) -> PyResult<()>
-    ensures ok { OnOk result (points out.new ≡ points out.old ++ spec.by_number code) }
+fn push_number(out: &mut PyStr, code: u32) -> PyResult<()>
+    ensures ok { OnOk result (out.new ≡ out.old ++ spec.by_number code) }
     ensures err { IsOkUnless result PyError.NoMemory }
 {
     if code < 256 {
@@ -131,8 +154,8 @@ fn push_number(out: &mut String, code: u32) -> PyResult<()>
 }
 
 // One character between quotes; `plain` says whether its class needs no escape.
-fn push_quoted(out: &mut String, quote: char, plain: bool, c: char) -> PyResult<()>
-    ensures ok { OnOk result (points out.new ≡ points out.old ++ spec.quoted_char quote plain c) }
+fn push_quoted(out: &mut PyStr, quote: char, plain: bool, c: char) -> PyResult<()>
+    ensures ok { OnOk result (out.new ≡ out.old ++ spec.quoted_char quote plain c) }
     ensures err { IsOkUnless result PyError.NoMemory }
 {
     if c == quote || c == '\\' {
@@ -142,37 +165,39 @@ fn push_quoted(out: &mut String, quote: char, plain: bool, c: char) -> PyResult<
         '\n' => push_escape(out, 'n'),
         '\r' => push_escape(out, 'r'),
         '\t' => push_escape(out, 't'),
-        _ if plain => push_char(out, c),
+        _ if plain => out.append_char(c),
         _ => push_number(out, c as u32),
     }
 }
 
 // The characters of a text, in runs.
-fn push_chars(out: &mut String, ascii: bool, quote: char, text: &str) -> PyResult<()>
-    ensures ok { OnOk result (points out.new ≡ points out.old
+fn push_chars(out: &mut PyStr, ascii: bool, quote: char, text: &str) -> PyResult<()>
+    ensures ok { OnOk result (out.new ≡ out.old
         ++ spec.quoted_chars quote (plain_of ascii) (chars text.now)) }
     ensures err { IsOkUnless result PyError.NoMemory }
 {
     let mut rest = text;
     'runs: while let Some((front, c, back)) = first_escaped(rest, ascii, quote) {
-        push_text(out, front)?;
+        out.append(front)?;
         push_quoted(out, quote, is_plain(ascii, c), c)?;
         rest = back;
     }
-    push_text(out, rest)?;
+    out.append(rest)?;
     Ok(())
 }
 
-fn holds(text: &str, mark: char) -> bool
+// Whether the text has an ASCII character, which is looked for among the bytes.
+fn holds(text: &str, mark: u8) -> bool
+    requires { mark < 128 }
     ensures { result ≡ list_any (λ c. c == mark) (chars text.now) }
 {
-    text.chars().any(|c| c == mark)
+    text.as_bytes().contains(&mark)
 }
 
 fn text_quote(text: &str) -> char
     ensures { result ≡ spec.quote_of (chars text.now) }
 {
-    if holds(text, '\'') && !holds(text, '"') {
+    if holds(text, b'\'') && !holds(text, b'"') {
         '"'
     } else {
         '\''
@@ -186,11 +211,11 @@ fn quoted(alloc: Global, ascii: bool, text: &PyStr) -> PyResult<PyStr>
 {
     let chars = text.as_str();
     let quote = text_quote(chars);
-    let mut out = String::with_capacity(alloc, chars.len().saturating_add(2))?;
-    push_char(&mut out, quote)?;
+    let mut out = PyStr::with_capacity(alloc, chars.len().saturating_add(2))?;
+    out.append_char(quote)?;
     push_chars(&mut out, ascii, quote, chars)?;
-    push_char(&mut out, quote)?;
-    Ok(PyStr::from(out))
+    out.append_char(quote)?;
+    Ok(out)
 }
 
 /// The text in quotes.
@@ -225,8 +250,8 @@ fn is_plain_byte(byte: u8) -> bool
     matches!(byte, 0x20..=0x7E)
 }
 
-fn push_bytes(out: &mut String, quote: char, bytes: &[u8]) -> PyResult<()>
-    ensures ok { OnOk result (points out.new ≡ points out.old
+fn push_bytes(out: &mut PyStr, quote: char, bytes: &[u8]) -> PyResult<()>
+    ensures ok { OnOk result (out.new ≡ out.old
         ++ spec.quoted_chars quote spec.is_plain_byte bytes.now) }
     ensures err { IsOkUnless result PyError.NoMemory }
 {
@@ -243,10 +268,10 @@ pub(crate) fn bytes_repr(bytes: &PyBytes, alloc: Global) -> PyResult<PyStr>
 {
     let whole = bytes.as_bytes();
     let quote = bytes_quote(whole);
-    let mut out = String::with_capacity(alloc, whole.len().saturating_add(3))?;
-    push_char(&mut out, 'b')?;
-    push_char(&mut out, quote)?;
+    let mut out = PyStr::with_capacity(alloc, whole.len().saturating_add(3))?;
+    out.append_char('b')?;
+    out.append_char(quote)?;
     push_bytes(&mut out, quote, whole)?;
-    push_char(&mut out, quote)?;
-    Ok(PyStr::from(out))
+    out.append_char(quote)?;
+    Ok(out)
 }

@@ -22,18 +22,18 @@ pub trait StrMore {
     /// The code points of the text.
     ghost points: { Self → List ℕ };
 
-    /// The text without the characters of `named` at both ends, or without whitespace where none are
-    /// named. It takes no memory. (Python Library Reference, String Methods, `str.strip`.)
+    /// The text without the characters of `named` at both ends, or without whitespace where none
+    /// are named. It takes no memory. (Python Library Reference, String Methods, `str.strip`.)
     fn strip(&self, named: Option<&PyStr>) -> &str
         ensures { chars result.now ≡ trim (strips named.entry) (points self.now) };
 
-    /// The text without the characters of `named` at its start, or without whitespace where none are
-    /// named. It takes no memory. (Python Library Reference, String Methods, `str.lstrip`.)
+    /// The text without the characters of `named` at its start, or without whitespace where none
+    /// are named. It takes no memory. (Python Library Reference, String Methods, `str.lstrip`.)
     fn lstrip(&self, named: Option<&PyStr>) -> &str
         ensures { chars result.now ≡ trim_start (strips named.entry) (points self.now) };
 
-    /// The text without the characters of `named` at its end, or without whitespace where none are
-    /// named. It takes no memory. (Python Library Reference, String Methods, `str.rstrip`.)
+    /// The text without the characters of `named` at its end, or without whitespace where none
+    /// are named. It takes no memory. (Python Library Reference, String Methods, `str.rstrip`.)
     fn rstrip(&self, named: Option<&PyStr>) -> &str
         ensures { chars result.now ≡ trim_end (strips named.entry) (points self.now) };
 

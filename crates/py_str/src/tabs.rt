@@ -1,25 +1,20 @@
 //! Tabs as spaces.
 
-ghost use Rattle.std.specs.Prelude.{◌≡◌, ℕ, ◌≤◌, ◌∷◌, ◌++◌, ◌<◌, List, [], false, chars, take_while, length, IsUtf8, OnOk, IfOk, IfSome, IsOkUnless, MatchOption};
+ghost use Rattle.std.specs.Prelude.{◌≡◌, ℕ, ◌≤◌, ◌<◌, ◌-◌, ◌∷◌, ◌++◌, List, [], false, chars, take_while};
+ghost use Rattle.std.specs.Prelude.{length, IsUtf8, OnOk, IfOk, IfSome, IsOkUnless, MatchOption};
 ghost use Rattle.py_base.specs.Chars.Whitespace.{skip_while};
 ghost use Rattle.py_str.specs.Pad.{width_of};
-ghost use Rattle.py_str.specs.Pushing.{points};
 ghost use Rattle.py_str.specs.Tabs as spec;
 
 use crate::pad::width_of;
-use crate::pushing::{push_char, push_few, push_text};
+use crate::pushing::push_spaces;
+use memchr::memchr3;
 use py_base::{PyError, PyResult};
 use py_text::PyStr;
 use std::alloc::Global;
 
-// Whether the character is no tab, CR or LF.
-fn is_inside(c: char) -> bool
-    ensures { result ≡ spec.is_inside c }
-{
-    !(c == '\t' || c == '\n' || c == '\r')
-}
-
-// The text before the first tab, CR or LF, that character, and the text after it.
+// The text before the first tab, CR or LF, that character, and the text after it. All three are
+// ASCII, so they are looked for among the bytes.
 fn first_stop(text: &str) -> Option<(&str, char, &str)>
     ensures text { IfSome result (λ p. IsUtf8 p.2.now) }
     ensures front { MatchOption result (take_while spec.is_inside (chars text.now) ≡ chars text.now)
@@ -29,15 +24,11 @@ fn first_stop(text: &str) -> Option<(&str, char, &str)>
     ensures stop { IfSome result (λ p. spec.is_inside p.1 ≡ false) }
     ensures shorter { IfSome result (λ p. length p.2.now < length text.now) }
 {
-    let mut rest = text.chars();
-    let mut at = 0;
-    'chars: while let Some(c) = rest.next() {
-        if !is_inside(c) {
-            return Some((&text[..at], c, rest.as_str()));
-        }
-        at += c.len_utf8();
+    let bytes = text.as_bytes();
+    match memchr3(b'\t', b'\n', b'\r', bytes) {
+        Some(at) => Some((&text[..at], char::from(bytes[at]), &text[at + 1..])),
+        None => None,
     }
-    None
 }
 
 // How many spaces a tab at the column gives.
@@ -47,41 +38,38 @@ fn gap(size: usize, column: usize) -> usize
     if size == 0 { 0 } else { size - column % size }
 }
 
-// Puts a tab, CR or LF at a column, and answers the column after it.
-fn push_stop(out: &mut String, size: usize, column: usize, c: char) -> PyResult<usize>
+// Puts a tab, CR or LF at the end of a line that begins at a place, and answers where the line
+// begins that follows.
+fn push_stop(out: &mut PyStr, size: usize, begins: usize, c: char) -> PyResult<usize>
     requires stop { spec.is_inside c ≡ false }
-    requires bound { column ≤ length (points out.old) }
-    ensures bound { IfOk result (λ next. next ≤ length (points out.new)) }
+    requires bound { begins ≤ length out.old }
+    ensures bound { IfOk result (λ next. next ≤ length out.new) }
     ensures ok { IfOk result (λ next. (back : List ℕ)
-        → points out.new ++ spec.expanded_at size next back
-        ≡ points out.old ++ spec.expanded_at size column (c ∷ back)) }
+        → out.new ++ spec.expanded_at size (length out.new - next) back
+        ≡ out.old ++ spec.expanded_at size (length out.old - begins) (c ∷ back)) }
     ensures err { IsOkUnless result PyError.NoMemory }
 {
     if c == '\t' {
-        let spaces = gap(size, column);
-        out.reserve(spaces)?;
-        push_few(out, ' ', spaces)?;
-        return Ok(column + spaces);
+        push_spaces(out, gap(size, out.len() - begins))?;
+        return Ok(begins);
     }
-    push_char(out, c)?;
-    Ok(0)
+    out.append_char(c)?;
+    Ok(out.len())
 }
 
 // The text with its tabs as spaces, in runs.
-fn push_expanded(out: &mut String, size: usize, text: &str) -> PyResult<()>
-    ensures ok { OnOk result (points out.new ≡ points out.old
-        ++ spec.expanded size (chars text.now)) }
+fn push_expanded(out: &mut PyStr, size: usize, text: &str) -> PyResult<()>
+    ensures ok { OnOk result (out.new ≡ out.old ++ spec.expanded size (chars text.now)) }
     ensures err { IsOkUnless result PyError.NoMemory }
 {
     let mut rest = text;
-    let mut column = 0;
+    let mut begins = out.len();
     'runs: while let Some((front, c, back)) = first_stop(rest) {
-        push_text(out, front)?;
-        let length = front.chars().count();
-        column = push_stop(out, size, column + length, c)?;
+        out.append(front)?;
+        begins = push_stop(out, size, begins, c)?;
         rest = back;
     }
-    push_text(out, rest)?;
+    out.append(rest)?;
     Ok(())
 }
 
@@ -91,7 +79,7 @@ pub(crate) fn expandtabs(text: &PyStr, alloc: Global, tabsize: isize) -> PyResul
     ensures ok { IfOk result (λ made. made ≡ spec.expanded (width_of tabsize) text.now) }
     ensures err { IsOkUnless result PyError.NoMemory }
 {
-    let mut out = String::with_capacity(alloc, text.byte_len())?;
+    let mut out = PyStr::with_capacity(alloc, text.byte_len())?;
     push_expanded(&mut out, width_of(tabsize), text.as_str())?;
-    Ok(PyStr::from(out))
+    Ok(out)
 }

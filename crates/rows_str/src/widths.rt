@@ -56,6 +56,23 @@ fn paddings(rt: HostRuntime) -> Result<(), PyError> {
     Ok(())
 }
 
+// A fill, and how many bytes a letter takes at the left of 200 places.
+const LONG: [(Option<&str>, usize); 3] = [(None, 200), (Some("0"), 200), (Some("é"), 399)];
+
+fn long_bytes(alloc: Global, fill: Option<&str>) -> PyResult<usize> {
+    let text = PyStr::copy_of(alloc, "a")?;
+    let fill = copied(alloc, fill)?;
+    Ok(text.ljust(alloc, 200, fill.as_ref())?.byte_len())
+}
+
+#[test]
+fn long_paddings(rt: HostRuntime) -> Result<(), PyError> {
+    for (fill, bytes) in &LONG {
+        assert_eq!(rt; long_bytes(rt.alloc(), *fill)?, *bytes);
+    }
+    Ok(())
+}
+
 // A width, and a fill that is not one code point.
 const NO_FILLS: [(isize, &str); 4] = [(5, ""), (5, "--"), (1, "--"), (-1, "")];
 

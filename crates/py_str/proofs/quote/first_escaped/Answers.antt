@@ -1,11 +1,14 @@
 use Rattle.std.proofs.Common.{◌≡◌, ◌∙◌, ◌∷◌, sym, ap, chars, take, slice_range, arith}
 use Rattle.std.specs.Str.Iter.{chars_rest}
 use Rattle.py_str.specs.Quote.{plain_of, is_kept}
-use Rattle.py_str.proofs.PassingLemmas.{passed_none, passed_more, passed_place, stop_taken, stop_skipped, none_skipped}
+use Rattle.py_str.proofs.PassingLemmas.{passed_more, passed_place, stop_taken, stop_skipped, none_skipped}
 use Rattle.py_str.proofs.quote.first_escaped.Goals as goal
 
 pub chars-init : goal.chars-init
-chars-init c = rw c.chars-rest.ensures.rest (passed_none _ _ c.utf8.text)
+chars-init c = rw (c.chars-rest.ensures.rest ∙ c.range_from.ensures.value) (c.kept_ascii-at.ensures c.args.ascii)
+
+pub range_from-requires : goal.range_from-requires
+range_from-requires c = λ _. passed_place _ _ _ _ (c.kept_ascii-at.ensures c.args.ascii)
 
 pub chars-preserved : goal.chars-preserved
 chars-preserved c = rw c.len_utf8-at.ensures.value (passed_more _ _ _ _ c.chars.at c.in-Some.c (sym c.is_kept.ensures ∙ c.if-not-is_kept.false) c.in-Some.ensures.steps.0 c.chars.invariant)

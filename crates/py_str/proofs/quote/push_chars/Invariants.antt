@@ -1,4 +1,4 @@
-use Rattle.std.proofs.Common.{◌≡◌, ◌++◌, length, chars, string_bytes}
+use Rattle.std.proofs.Common.{◌≡◌, ◌++◌, length, chars}
 use denote.Text.{Utf8}
 use denote.Shadow.{shadow}
 use Rattle.py_base.specs.Chars.Quoting.{quoted_chars}
@@ -8,7 +8,7 @@ use Rattle.py_str.proofs.quote.push_chars.Given as goal
 abbrev pub invariant-runs : goal.invariant-runs
 invariant-runs l = record {
   utf8 : shadow (Utf8 l.rest);
-  whole : chars (string_bytes l.out) ++ quoted_chars l.quote (plain_of l.ascii) (chars l.rest) ≡ chars (string_bytes l.initial.out) ++ quoted_chars l.quote (plain_of l.ascii) (chars l.text);
+  whole : l.out ++ quoted_chars l.quote (plain_of l.ascii) (chars l.rest) ≡ l.initial.out ++ quoted_chars l.quote (plain_of l.ascii) (chars l.text);
 }
 
 abbrev pub decreases-runs : goal.decreases-runs

@@ -1,7 +1,6 @@
-use Rattle.std.proofs.Common.{rules, ◌≡◌, ◌∙◌, [], ap, chars, string_bytes}
+use Rattle.std.proofs.Common.{◌∙◌, ap, refl}
 use Rattle.std.specs.Int.{w64}
 use Rattle.std.proofs.lemmas.Int.{to_z-of_z}
-use Rattle.std.proofs.lemmas.Str.{chars-nil}
 use Rattle.py_str.specs.Pad.{width_of}
 use Rattle.py_str.specs.Tabs.{expanded}
 use Rattle.py_str.proofs.PushingLemmas.{made_is}
@@ -9,6 +8,5 @@ use Rattle.py_str.proofs.tabs.expandtabs.Goals as goal
 
 pub returns-clause-ok : goal.returns-clause-ok
 returns-clause-ok c =
-    let e : string_bytes c.in_ok-out.out ≡ [] = search rules in
     let w = c.width_of.ensures ∙ ap width_of (to_z-of_z w64 c.args.tabsize c.ranges.tabsize) in
-    made_is (chars (string_bytes c.in_ok-out.out)) _ _ _ _ (ap chars e ∙ chars-nil) c.in_ok-push_expanded.ensures.ok (λ i. expanded (w i) (c.as_str.ensures.value i)) c.from.ensures
+    made_is c.in_ok-out.out _ _ _ _ c.in_ok-out.ensures.ok c.in_ok-push_expanded.ensures.ok (λ i. expanded (w i) (c.as_str.ensures.value i)) refl

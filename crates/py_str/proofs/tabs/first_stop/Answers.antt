@@ -1,28 +1,39 @@
-use Rattle.std.proofs.Common.{◌≡◌, ◌∙◌, ◌∷◌, sym, ap, chars, take, slice_range, arith}
-use Rattle.std.specs.Str.Iter.{chars_rest}
+use Rattle.std.proofs.Common.{rules, ◌≡◌, ◌∙◌, ◌∷◌, ◌+◌, ℕ, List, sym, ap, chars, take, drop, get_or, length, slice_range, arith}
 use Rattle.py_str.specs.Tabs.{is_inside}
-use Rattle.py_str.proofs.PassingLemmas.{passed_none, passed_more, passed_place, stop_taken, stop_skipped, none_skipped}
+use Rattle.py_str.proofs.PassingLemmas.{stop_taken, stop_skipped, all_taken, none_skipped}
+use Rattle.py_str.proofs.StopLemmas.{found, found_ends, passed_found, passed_whole, none_left, stop_splits, stop_fails, stop_begins}
 use Rattle.py_str.proofs.tabs.first_stop.Goals as goal
 
-pub chars-init : goal.chars-init
-chars-init c = rw c.chars-rest.ensures.rest (passed_none _ _ c.utf8.text)
+pub range_from-requires : goal.range_from-requires
+range_from-requires c = λ _.
+    found_ends c.args.text.now c.in-Some.at c.utf8.text (found c.args.text.now c.as_bytes-bytes.result.now c.in-Some.at c.as_bytes-bytes.ensures.value c.in-Some.ensures.0 c.in-Some.ensures.1)
 
-pub chars-preserved : goal.chars-preserved
-chars-preserved c = rw c.len_utf8-at.ensures.value (passed_more _ _ _ _ c.chars.at c.in-Some.c (sym c.is_inside.ensures ∙ c.if-not-is_inside.false) c.in-Some.ensures.steps.0 c.chars.invariant)
-
-pub range-requires-clause-end_boundary : goal.range-requires-clause-end_boundary
-range-requires-clause-end_boundary c = passed_place _ _ _ _ c.chars.invariant
-
-pub returns-then-not-is_inside-clause-front : goal.returns-then-not-is_inside-clause-front
-returns-then-not-is_inside-clause-front c =
-    let t : slice_range c.args.text.now 0 c.chars.at ≡ take c.chars.at c.args.text.now = grind arith in
-    stop_taken is_inside _ _ _ c.chars.at c.in-Some.c (sym c.is_inside.ensures ∙ c.if-not-is_inside.true) c.in-Some.ensures.steps.0 c.chars.invariant
+pub returns-in-Some-clause-front : goal.returns-in-Some-clause-front
+returns-in-Some-clause-front c =
+    let s = c.args.text.now in
+    let at = c.in-Some.at in
+    let f = found s c.as_bytes-bytes.result.now at c.as_bytes-bytes.ensures.value c.in-Some.ensures.0 c.in-Some.ensures.1 in
+    let t : slice_range c.args.text.now 0 c.in-Some.at ≡ take c.in-Some.at c.args.text.now = grind arith in
+    stop_taken is_inside s (drop at s) (drop (at + 1) s) at (get_or s at 0) (stop_fails (get_or s at 0) f.stop) (stop_splits s at f.within f.stop) (passed_found s at c.utf8.text f)
     ∙ ap chars (sym (c.range.ensures.value ∙ t))
 
-pub returns-then-not-is_inside-clause-rest : goal.returns-then-not-is_inside-clause-rest
-returns-then-not-is_inside-clause-rest c =
-    stop_skipped is_inside _ _ _ c.chars.at c.in-Some.c (sym c.is_inside.ensures ∙ c.if-not-is_inside.true) c.in-Some.ensures.steps.0 c.chars.invariant
-    ∙ ap (λ l. c.in-Some.c ∷ chars l) (sym c.as_str.ensures)
+pub returns-in-Some-clause-rest : goal.returns-in-Some-clause-rest
+returns-in-Some-clause-rest c =
+    let s = c.args.text.now in
+    let at = c.in-Some.at in
+    let f = found s c.as_bytes-bytes.result.now at c.as_bytes-bytes.ensures.value c.in-Some.ensures.0 c.in-Some.ensures.1 in
+    let e : c.from.result ≡ get_or c.as_bytes-bytes.result.now c.in-Some.at 0 = search rules in
+    let b : get_or c.args.text.now c.in-Some.at 0 ≡ c.from.result = sym (e ∙ ap (λ (x : List ℕ). get_or x c.in-Some.at 0) c.as_bytes-bytes.ensures.value) in
+    stop_skipped is_inside s (drop at s) (drop (at + 1) s) at (get_or s at 0) (stop_fails (get_or s at 0) f.stop) (stop_splits s at f.within f.stop) (passed_found s at c.utf8.text f)
+    ∙ ap (λ (d : ℕ). d ∷ chars (drop (c.in-Some.at + 1) c.args.text.now)) b
+    ∙ ap (λ (l : List ℕ). c.from.result ∷ chars l) (sym c.range_from.ensures.value)
 
-pub returns-clause-rest : goal.returns-clause-rest
-returns-clause-rest c = none_skipped is_inside _ (chars_rest c.chars.rest) c.chars.at (rw c.in_default.is at c.next.ensures.steps.0).0 c.chars.invariant
+pub returns-in-None-clause-front : goal.returns-in-None-clause-front
+returns-in-None-clause-front c =
+    let s = c.args.text.now in
+    all_taken is_inside s (drop (length s) s) (length s) (none_left s) (passed_whole s c.as_bytes-bytes.result.now c.as_bytes-bytes.ensures.value c.utf8.text c.in-None.ensures)
+
+pub returns-in-None-clause-rest : goal.returns-in-None-clause-rest
+returns-in-None-clause-rest c =
+    let s = c.args.text.now in
+    none_skipped is_inside s (drop (length s) s) (length s) (none_left s) (passed_whole s c.as_bytes-bytes.result.now c.as_bytes-bytes.ensures.value c.utf8.text c.in-None.ensures)

@@ -1,16 +1,11 @@
-use Rattle.std.proofs.Common.{◌≡◌, ◌<◌, ◌^◌, arith, rules, ap, chars, string_bytes, length}
-use Rattle.std.proofs.lemmas.Str.{IsUtf8-string_bytes}
-use Rattle.py_text.proofs.PointLemmas.{points_at_most}
-use Rattle.py_str.proofs.TabsLemmas.{column_within}
+use Rattle.std.proofs.Common.{◌∙◌, ◌-◌, ap, arith, length}
+use Rattle.py_str.specs.Tabs.{gap}
+use Rattle.py_str.proofs.TabsLemmas.{tab_more, end_more}
 use Rattle.py_str.proofs.tabs.push_stop.Goals as goal
 
-pub overflow_add-result : goal.overflow_add-result
-overflow_add-result c =
-    let e : chars (string_bytes c.reserve.new.self) ≡ chars (string_bytes c.args.out.now) = ap chars c.reserve.ensures.bytes in
-    let f : length (string_bytes c.push_few.new.out) < 2 ^ 64 = search rules in
-    omega (arith, f, points_at_most (string_bytes c.push_few.new.out) (IsUtf8-string_bytes c.push_few.new.out), column_within (chars (string_bytes c.push_few.new.out)) _ _ c.args.column _ _ e c.in_ok-push_few.ensures.ok c.requires.bound)
+pub returns-then-c-eq9-clause-ok : goal.returns-then-c-eq9-clause-ok
+returns-then-c-eq9-clause-ok c = λ back.
+    tab_more c.args.size c.args.begins c.gap.result c.args.c _ _ back c.if-c-eq9.true c.requires.bound (c.gap.ensures ∙ ap (λ n. gap c.args.size (n - c.args.begins)) c.len.ensures) c.in_ok-push_spaces.ensures.ok
 
-pub returns-then-c-eq9-clause-bound : goal.returns-then-c-eq9-clause-bound
-returns-then-c-eq9-clause-bound c =
-    let e : chars (string_bytes c.reserve.new.self) ≡ chars (string_bytes c.args.out.now) = ap chars c.reserve.ensures.bytes in
-    column_within (chars (string_bytes c.push_few.new.out)) _ _ c.args.column _ _ e c.in_ok-push_few.ensures.ok c.requires.bound
+pub returns-clause-ok : goal.returns-clause-ok
+returns-clause-ok c = λ back. end_more c.args.size c.args.begins _ c.args.c _ _ back c.requires.stop c.if-c-eq9.false c.in_ok-append_char.ensures.ok c.len-2.ensures

@@ -4,16 +4,16 @@ use Rattle.std.proofs.lemmas.Int.{ints, to_z-of_z}
 use Rattle.py_int.proofs.PowerLemmas.{refused_power, carried_by, power_is}
 use Rattle.py_int.proofs.number.PyInt.rpow.Goals as goal
 
-pub returns-then-exp-gt127-clause-value : goal.returns-then-exp-gt127-clause-value
-returns-then-exp-gt127-clause-value c = λ h.
+pub returns-then-exp-gt-VALUE_BITS-clause-value : goal.returns-then-exp-gt-VALUE_BITS-clause-value
+returns-then-exp-gt-VALUE_BITS-clause-value c = λ h.
     let f : FitsSigned w128 c.as_i128-value.result = record { sfits = c.as_i128-value.type_inv } in
     let s : c.unsigned_abs.result ≡ unsigned_abs c.as_i128-value.result = c.unsigned_abs.ensures.value ∙ ap unsigned_abs (to_z-of_z w128 c.as_i128-value.result f) in
     let big : 1 < unsigned_abs c.as_i128-value.result = omega arith in
     let far : pos 127 <ℤ c.as_i128-exp.result = omega (arith, ints) in
     rw (← c.as_i128-value.ensures, ← c.as_i128-exp.ensures) (refused_power c.as_i128-value.result c.as_i128-exp.result big far)
 
-pub returns-else-exp-gt127-clause-value : goal.returns-else-exp-gt127-clause-value
-returns-else-exp-gt127-clause-value c = λ h.
+pub returns-else-exp-gt-VALUE_BITS-clause-value : goal.returns-else-exp-gt-VALUE_BITS-clause-value
+returns-else-exp-gt-VALUE_BITS-clause-value c = λ h.
     let v = c.as_i128-value.result in
     let e = c.as_i128-exp.result in
     let f : FitsSigned w128 v = record { sfits = c.as_i128-value.type_inv } in

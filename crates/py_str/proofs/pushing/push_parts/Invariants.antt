@@ -1,0 +1,6 @@
+use Rattle.std.proofs.Common.{◌≡◌, ◌++◌}
+use Rattle.py_text.specs.Sums.{copies}
+use Rattle.py_str.proofs.pushing.push_parts.Given as goal
+
+abbrev pub invariant-loop-n : goal.invariant-loop-n
+invariant-loop-n l = l.out ≡ l.initial.out ++ copies l._n l.block
