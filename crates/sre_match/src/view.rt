@@ -9,6 +9,7 @@ use std::sync::ledger::Ledger;
 mod bytes;
 mod metered;
 mod place;
+pub mod short;
 mod text;
 
 pub use bytes::ByteView;

@@ -2,9 +2,9 @@
 
 ghost use Rattle.sre_match.specs.Captures.{captures};
 ghost use Rattle.sre_match.specs.Cursor.{Cursor};
-ghost use Rattle.sre_match.specs.Fits.{Fit, Placed, Stays};
+ghost use Rattle.sre_match.specs.Fits.{Fit, Stays, Ready};
 ghost use Rattle.std.specs.Prelude.{◌≡◌, ◌≢◌, ◌+◌, ◌≤◌, ◌<◌, ℕ, Bool, List, [], ◌∷◌, ◌++◌, OnOk, true, false, slice_get, length};
-ghost use Rattle.sre_match.specs.Machine.{run, part_next, to_try, Sound, Gives, StaysSound};
+ghost use Rattle.sre_match.specs.Machine.{part_next, to_try, Sound, Gives, Linked, rest_of, trying};
 ghost use Rattle.sre_match.specs.Attempts.{Attempt, after, Marks};
 ghost use Rattle.sre_match.specs.Paths.{all_paths};
 ghost use Rattle.sre_match.specs.Anchors as places;
@@ -70,7 +70,8 @@ fn left_of<'t>(trees: &'t [Tree], unit: Option<u32>) -> &'t [Tree]
 #[tactic(auto, using(crate::proofs::TurnLemmas::alone))]
 fn later<'t>(more: &'t [Tree]) -> Part<'t>
     requires { more.now ≢ [] }
-    ensures { (s : List ℕ) (p : ℕ) (m : Marks) → part_next result s p m ≡ all_paths (trees_of more.entry.now) s p m }
+    ensures { (s : List ℕ) (p : ℕ) (m : Marks)
+        → part_next result s p m ≡ all_paths (trees_of more.entry.now) s p m }
 {
     match more {
         [t] => Part::Nodes(t.nodes()),
@@ -86,11 +87,16 @@ fn keep_later<'t>(
 ) -> Result<(), AllocError>
     requires sound { Sound trail.old }
     requires deep { current.now.rest ≤ length trail.old.frames.items }
-    ensures marks { OnOk result ((captures trail.new.marks.items) ≡ (captures trail.old.marks.items)) }
+    ensures marks { OnOk result (captures trail.new.marks.items ≡ captures trail.old.marks.items) }
     ensures frames { OnOk result (trail.new.frames.items ≡ trail.old.frames.items) }
-    ensures tried { OnOk result ((s : List ℕ) (xs : List Attempt) → to_try s trail.new xs ≡ to_try s trail.old (xs ++ after (spec.each_paths more.entry.now s current.now.cursor.place (captures trail.old.marks.items)) (run trail.old.frames.items current.now.rest s))) }
+    ensures tried { OnOk result ((s : List ℕ) (xs : List Attempt) →
+        let ys = spec.each_paths more.entry.now s current.now.cursor.place
+        (captures trail.old.marks.items) in
+        let rest = rest_of current.now s trail.old in
+        to_try s trail.new xs ≡ to_try s trail.old (xs ++ after ys rest)) }
     ensures sound { OnOk result (Sound trail.new) }
-    ensures fit { OnOk result ((ok : Cursor → Bool) → Placed ok current.now trail.old → Fit ok trail.new) }
+    ensures fit { OnOk result ((ok : Cursor → Bool)
+        → ok current.now.cursor ≡ true → Fit ok trail.old → Fit ok trail.new) }
 {
     if more.is_empty() {
         return Ok(());
@@ -111,11 +117,11 @@ fn chosen_turn<'t>(
     current: &mut Current<'t>,
     trail: &mut Trail<'t>,
 ) -> Turn
-    requires sound { Sound trail.old }
-    requires deep { current.old.rest ≤ length trail.old.frames.items }
-    ensures gives { (s : List ℕ) (n : ℕ) → Gives result current.new s trail.new n n (to_try s trail.old (after (spec.each_paths (t.now ∷ more.entry.now) s current.old.cursor.place (captures trail.old.marks.items)) (run trail.old.frames.items current.old.rest s))) }
-    ensures sound { StaysSound result current.new trail.new }
-    ensures placed { (ok : Cursor → Bool) → Placed ok current.old trail.old → Stays result ok current.new trail.new }
+    requires linked { Linked current.old trail.old }
+    ensures gives { (s : List ℕ) (n : ℕ) → Gives result current.new s trail.new n n
+        (trying (spec.each_paths (t.now ∷ more.entry.now) s) current.old s trail.old) }
+    ensures ready { (ok : Cursor → Bool) → Ready ok current.old trail.old
+        → Stays result ok current.new trail.new }
 {
     let Ok(()) = keep_later(more, current, trail) else {
         return Turn::Full;
@@ -133,12 +139,12 @@ fn met_turn<'t, S: StrDrive>(
     trail: &mut Trail<'t>,
 ) -> Turn
     requires within { current.old.cursor.place < length s.now }
-    requires sound { Sound trail.old }
-    requires deep { current.old.rest ≤ length trail.old.frames.items }
-    requires placed { Placed (S.fits s.now) current.old trail.old }
-    ensures gives { (n : ℕ) → spec.begins_single t.now ≡ true → spec.is_out t.now (slice_get s.now current.old.cursor.place) ≡ false → Gives result current.new s.now trail.new n (n + 1) (to_try s.now trail.old (after (spec.each_paths (t.now ∷ more.entry.now) s.now current.old.cursor.place (captures trail.old.marks.items)) (run trail.old.frames.items current.old.rest s.now))) }
-    ensures sound { StaysSound result current.new trail.new }
-    ensures placed { Stays result (S.fits s.now) current.new trail.new }
+    requires ready { Ready (S.fits s.now) current.old trail.old }
+    ensures gives { (n : ℕ) → spec.begins_single t.now ≡ true
+        → spec.is_out t.now (slice_get s.now current.old.cursor.place) ≡ false
+        → Gives result current.new s.now trail.new n (n + 1)
+        (trying (spec.each_paths (t.now ∷ more.entry.now) s.now) current.old s.now trail.old) }
+    ensures ready { Stays result (S.fits s.now) current.new trail.new }
 {
     let Ok(()) = keep_later(more, current, trail) else {
         return Turn::Full;
@@ -157,11 +163,12 @@ fn others_turn<'t>(
     current: &mut Current<'t>,
     trail: &mut Trail<'t>,
 ) -> Turn
-    requires sound { Sound trail.old }
-    requires deep { current.old.rest ≤ length trail.old.frames.items }
-    ensures gives { (s : List ℕ) (n : ℕ) → unit ≡ slice_get s current.old.cursor.place → Gives result current.new s trail.new n n (to_try s trail.old (after (spec.each_paths trees.entry.now s current.old.cursor.place (captures trail.old.marks.items)) (run trail.old.frames.items current.old.rest s))) }
-    ensures sound { StaysSound result current.new trail.new }
-    ensures placed { (ok : Cursor → Bool) → Placed ok current.old trail.old → Stays result ok current.new trail.new }
+    requires linked { Linked current.old trail.old }
+    ensures gives { (s : List ℕ) (n : ℕ) → unit ≡ slice_get s current.old.cursor.place
+        → Gives result current.new s trail.new n n
+        (trying (spec.each_paths trees.entry.now s) current.old s trail.old) }
+    ensures ready { (ok : Cursor → Bool) → Ready ok current.old trail.old
+        → Stays result ok current.new trail.new }
 {
     match left_of(trees, unit) {
         [] => Turn::Fail,
@@ -179,13 +186,11 @@ fn read_turn<'t, S: StrDrive, L: Ledger>(
     steps: &mut Steps<L>,
 ) -> Turn
     requires begins { spec.begins_single t.now ≡ true }
-    requires sound { Sound trail.old }
-    requires deep { current.old.rest ≤ length trail.old.frames.items }
-    requires placed { Placed (S.fits s.now) current.old trail.old }
+    requires ready { Ready (S.fits s.now) current.old trail.old }
     requires counter { S.counts L.name }
-    ensures gives { Gives result current.new s.now trail.new steps.old steps.new (to_try s.now trail.old (after (spec.each_paths (t.now ∷ more.entry.now) s.now current.old.cursor.place (captures trail.old.marks.items)) (run trail.old.frames.items current.old.rest s.now))) }
-    ensures sound { StaysSound result current.new trail.new }
-    ensures placed { Stays result (S.fits s.now) current.new trail.new }
+    ensures gives { Gives result current.new s.now trail.new steps.old steps.new
+        (trying (spec.each_paths (t.now ∷ more.entry.now) s.now) current.old s.now trail.old) }
+    ensures ready { Stays result (S.fits s.now) current.new trail.new }
 {
     let unit = unit_at(s, &current.cursor, steps);
     if is_out(t, unit) {
@@ -195,8 +200,8 @@ fn read_turn<'t, S: StrDrive, L: Ledger>(
     }
 }
 
-/// Alternatives are next. Where the first one begins with a unit, that is read once, and those that it
-/// rules out are passed over.
+/// Alternatives are next. Where the first one begins with a unit, that is read once, and those that
+/// it rules out are passed over.
 pub fn trees_turn<'t, S: StrDrive, L: Ledger>(
     trees: &'t [Tree],
     s: &Subject<'_, S>,
@@ -204,13 +209,11 @@ pub fn trees_turn<'t, S: StrDrive, L: Ledger>(
     trail: &mut Trail<'t>,
     steps: &mut Steps<L>,
 ) -> Turn
-    requires sound { Sound trail.old }
-    requires deep { current.old.rest ≤ length trail.old.frames.items }
-    requires placed { Placed (S.fits s.now) current.old trail.old }
+    requires ready { Ready (S.fits s.now) current.old trail.old }
     requires counter { S.counts L.name }
-    ensures gives { Gives result current.new s.now trail.new steps.old steps.new (to_try s.now trail.old (after (all_paths (trees_of trees.now) s.now current.old.cursor.place (captures trail.old.marks.items)) (run trail.old.frames.items current.old.rest s.now))) }
-    ensures sound { StaysSound result current.new trail.new }
-    ensures placed { Stays result (S.fits s.now) current.new trail.new }
+    ensures gives { Gives result current.new s.now trail.new steps.old steps.new
+        (trying (all_paths (trees_of trees.now) s.now) current.old s.now trail.old) }
+    ensures ready { Stays result (S.fits s.now) current.new trail.new }
 {
     match trees {
         [] => {

@@ -1,7 +1,7 @@
 //! Choices: what is still to be tried, and the way back to it.
 
 ghost use Rattle.sre_match.specs.Captures.{captures, captured_by, capture_fits};
-ghost use Rattle.sre_match.specs.Cursor.{Cursor};
+ghost use Rattle.sre_match.specs.Cursor.{Cursor, widened};
 ghost use Rattle.sre_match.specs.Fits.{Fit};
 ghost use Rattle.std.specs.Prelude.{◌≡◌, ℕ, Bool, IfSome, List, [], ◌∷◌, ◌++◌, ◌<◌, ◌≤◌, ◌^◌, take, true, IfOk, OnOk, length};
 ghost use Rattle.sre_match.specs.Machine.{run, onward, part_next, wrap, level_of, to_try, Sound, Rising, Stacked, Pops, Returns};
@@ -11,6 +11,7 @@ use crate::marks::Capture;
 use crate::matcher::frames::frame_count;
 use crate::matcher::trail::{Choice, ChoiceKind, Current, Part, Trail};
 use crate::view::StringCursor;
+use crate::view::short::{ShortCursor, short};
 use std::alloc::AllocError;
 
 // Adds a choice at the end.
@@ -49,17 +50,6 @@ fn choice_count<'t>(choices: &[Choice<'t>]) -> usize
     choices.len()
 }
 
-// A number in four bytes, since a subject's every place may keep several. A larger one is taken for
-// out of memory.
-fn short(n: usize) -> Result<u32, AllocError>
-    ensures { IfOk result (λ k. k ≡ n) }
-{
-    match u32::try_from(n) {
-        Ok(k) => Ok(k),
-        Err(_) => Err(AllocError),
-    }
-}
-
 /// Keeps a choice for later.
 pub fn keep<'t>(
     trail: &mut Trail<'t>,
@@ -70,20 +60,25 @@ pub fn keep<'t>(
 ) -> Result<(), AllocError>
     requires sound { Sound trail.old }
     requires deep { rest ≤ length trail.old.frames.items }
-    ensures marks { OnOk result ((captures trail.new.marks.items) ≡ (captures trail.old.marks.items)) }
+    ensures marks { OnOk result (captures trail.new.marks.items ≡ captures trail.old.marks.items) }
     ensures frames { OnOk result (trail.new.frames.items ≡ trail.old.frames.items) }
-    ensures tried { OnOk result ((s : List ℕ) (xs : List Attempt) → to_try s trail.new xs ≡ to_try s trail.old (wrap kind (onward trail.old.frames.items (part_next part.entry s) rest s) cursor.place (captures trail.old.marks.items) xs)) }
+    ensures tried { OnOk result ((s : List ℕ) (xs : List Attempt) →
+        let next = onward trail.old.frames.items (part_next part.entry s) rest s in
+        to_try s trail.new xs
+        ≡ to_try s trail.old (wrap kind next cursor.place (captures trail.old.marks.items) xs)) }
     ensures sound { OnOk result (Sound trail.new) }
-    ensures fit { OnOk result ((ok : Cursor → Bool) → ok cursor ≡ true → Fit ok trail.old → Fit ok trail.new) }
+    ensures fit { OnOk result ((ok : Cursor → Bool)
+        → ok cursor ≡ true → Fit ok trail.old → Fit ok trail.new) }
 {
     let marks = short(mark_count(&trail.marks))?;
     let frames = short(frame_count(&trail.frames))?;
     let rest = short(rest)?;
+    let kept = ShortCursor::new(cursor)?;
     let _count = choice_count(&trail.choices);
     let levels = trail.levels + level(kind);
     let choice = Choice {
         part,
-        cursor,
+        cursor: kept,
         rest,
         frames,
         marks,
@@ -97,11 +92,14 @@ pub fn keep<'t>(
 /// Adds a capture at the end.
 pub fn add_capture<'t>(trail: &mut Trail<'t>, captured: Capture) -> Result<(), AllocError>
     requires { Sound trail.old }
-    ensures marks { OnOk result ((captures trail.new.marks.items) ≡ (captures trail.old.marks.items) ++ captured_by captured ∷ []) }
+    ensures marks { OnOk result (captures trail.new.marks.items
+        ≡ captures trail.old.marks.items ++ captured_by captured ∷ []) }
     ensures frames { OnOk result (trail.new.frames.items ≡ trail.old.frames.items) }
-    ensures tried { OnOk result ((s : List ℕ) (xs : List Attempt) → to_try s trail.new xs ≡ to_try s trail.old xs) }
+    ensures tried { OnOk result ((s : List ℕ) (xs : List Attempt)
+        → to_try s trail.new xs ≡ to_try s trail.old xs) }
     ensures sound { OnOk result (Sound trail.new) }
-    ensures fit { OnOk result ((ok : Cursor → Bool) → capture_fits ok captured → Fit ok trail.old → Fit ok trail.new) }
+    ensures fit { OnOk result ((ok : Cursor → Bool)
+        → capture_fits ok captured → Fit ok trail.old → Fit ok trail.new) }
 {
     match trail.marks.push(captured) {
         Ok(()) => Ok(()),
@@ -115,7 +113,8 @@ pub fn pop<'t>(trail: &mut Trail<'t>) -> Option<Choice<'t>>
     ensures popped { Pops result trail.old trail.new }
     ensures sound { Sound trail.new }
     ensures fit { (ok : Cursor → Bool) → Fit ok trail.old → Fit ok trail.new }
-    ensures here { (ok : Cursor → Bool) → Fit ok trail.old → IfSome result (λ c. ok c.cursor ≡ true) }
+    ensures here { (ok : Cursor → Bool)
+        → Fit ok trail.old → IfSome result (λ c. ok (widened c.cursor) ≡ true) }
 {
     let choice = trail.choices.pop()?;
     trail.levels -= level(choice.kind);
@@ -130,9 +129,11 @@ fn rewind<'t>(trail: &mut Trail<'t>, marks: usize, frames: usize, rest: usize)
     requires stacked { Stacked 0 trail.old.choices.items frames }
     requires deep { frames ≤ length trail.old.frames.items }
     requires reach { rest ≤ frames }
-    ensures marks { (captures trail.new.marks.items) ≡ take marks (captures trail.old.marks.items) }
-    ensures tried { (s : List ℕ) (xs : List Attempt) → to_try s trail.new xs ≡ to_try s trail.old xs }
-    ensures stays { (s : List ℕ) → run trail.new.frames.items rest s ≡ run trail.old.frames.items rest s }
+    ensures marks { captures trail.new.marks.items ≡ take marks (captures trail.old.marks.items) }
+    ensures tried { (s : List ℕ) (xs : List Attempt)
+        → to_try s trail.new xs ≡ to_try s trail.old xs }
+    ensures stays { (s : List ℕ)
+        → run trail.new.frames.items rest s ≡ run trail.old.frames.items rest s }
     ensures count { length trail.new.frames.items ≡ frames }
     ensures sound { Sound trail.new }
     ensures fit { (ok : Cursor → Bool) → Fit ok trail.old → Fit ok trail.new }
@@ -143,23 +144,29 @@ fn rewind<'t>(trail: &mut Trail<'t>, marks: usize, frames: usize, rest: usize)
 
 // Where the matcher is when it goes on at a choice.
 fn current_of<'t>(choice: Choice<'t>) -> Current<'t>
-    ensures { result ≡ record { part = choice.entry.part; rest = choice.entry.rest; cursor = choice.entry.cursor } }
+    ensures { result ≡ record {
+      part = choice.entry.part;
+      rest = choice.entry.rest;
+      cursor = widened choice.entry.cursor;
+    } }
 {
     Current {
         part: choice.part,
         rest: choice.rest as usize,
-        cursor: choice.cursor,
+        cursor: choice.cursor.wide(),
     }
 }
 
-/// Goes back to the newest choice that has more to try, and to its captures. False says that none is left.
+/// Goes back to the newest choice that has more to try, and to its captures. False says that none
+/// is left.
 pub fn go_back<'t>(current: &mut Current<'t>, trail: &mut Trail<'t>) -> bool
     requires { Sound trail.old }
     ensures back { (s : List ℕ) → Returns result current.new s trail.new (to_try s trail.old []) }
     ensures below { result ≡ true → current.new.rest ≤ length trail.new.frames.items }
     ensures sound { Sound trail.new }
     ensures fit { (ok : Cursor → Bool) → Fit ok trail.old → Fit ok trail.new }
-    ensures here { (ok : Cursor → Bool) → Fit ok trail.old → result ≡ true → ok current.new.cursor ≡ true }
+    ensures here { (ok : Cursor → Bool)
+        → Fit ok trail.old → result ≡ true → ok current.new.cursor ≡ true }
 {
     while let Some(choice) = pop(trail) {
         match choice.kind {

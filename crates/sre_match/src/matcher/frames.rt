@@ -34,9 +34,11 @@ pub fn frame_in<'t>(frames: &[Frame<'t>], rest: usize) -> Frame<'t>
     requires some { 0 < rest }
     requires deep { rest ≤ length frames.now }
     requires down { Down 0 frames.now }
-    ensures run { (s : List ℕ) → run frames.now rest s ≡ onward frames.now (task_next result.task s) result.rest s }
+    ensures run { (s : List ℕ)
+        → run frames.now rest s ≡ onward frames.now (task_next result.task s) result.rest s }
     ensures below { result.rest < rest }
-    ensures fit { (ok : Cursor → Bool) → All (frame_fits ok) frames.now → task_fits ok result.task ≡ true }
+    ensures fit { (ok : Cursor → Bool)
+        → All (frame_fits ok) frames.now → task_fits ok result.task ≡ true }
 {
     frames[rest - 1]
 }
@@ -45,14 +47,18 @@ pub fn frame_in<'t>(frames: &[Frame<'t>], rest: usize) -> Frame<'t>
 pub fn put<'t>(trail: &mut Trail<'t>, task: Task<'t>, rest: usize) -> Result<usize, AllocError>
     requires sound { Sound trail.old }
     requires deep { rest ≤ length trail.old.frames.items }
-    ensures marks { OnOk result ((captures trail.new.marks.items) ≡ (captures trail.old.marks.items)) }
-    ensures tried { OnOk result ((s : List ℕ) (xs : List Attempt) → to_try s trail.new xs ≡ to_try s trail.old xs) }
-    ensures put { IfOk result (λ i. (s : List ℕ) → run trail.new.frames.items i s ≡ onward trail.old.frames.items (task_next task.entry s) rest s) }
-    ensures stays { OnOk result ((s : List ℕ) → run trail.new.frames.items rest s ≡ run trail.old.frames.items rest s) }
+    ensures marks { OnOk result (captures trail.new.marks.items ≡ captures trail.old.marks.items) }
+    ensures tried { OnOk result ((s : List ℕ) (xs : List Attempt)
+        → to_try s trail.new xs ≡ to_try s trail.old xs) }
+    ensures put { IfOk result (λ i. (s : List ℕ) → run trail.new.frames.items i s
+        ≡ onward trail.old.frames.items (task_next task.entry s) rest s) }
+    ensures stays { OnOk result ((s : List ℕ)
+        → run trail.new.frames.items rest s ≡ run trail.old.frames.items rest s) }
     ensures below { IfOk result (λ i. i ≤ length trail.new.frames.items) }
     ensures deep { OnOk result (rest ≤ length trail.new.frames.items) }
     ensures sound { OnOk result (Sound trail.new) }
-    ensures fit { OnOk result ((ok : Cursor → Bool) → task_fits ok task.entry ≡ true → Fit ok trail.old → Fit ok trail.new) }
+    ensures fit { OnOk result ((ok : Cursor → Bool)
+        → task_fits ok task.entry ≡ true → Fit ok trail.old → Fit ok trail.new) }
 {
     let count = frame_count(&trail.frames);
     push_frame(&mut trail.frames, Frame { task, rest })?;
@@ -74,9 +80,11 @@ pub fn drop_frame<'t>(trail: &mut Trail<'t>, rest: usize)
     requires sound { Sound trail.old }
     requires some { 0 < rest }
     requires deep { rest ≤ length trail.old.frames.items }
-    ensures marks { (captures trail.new.marks.items) ≡ (captures trail.old.marks.items) }
-    ensures tried { (s : List ℕ) (xs : List Attempt) → to_try s trail.new xs ≡ to_try s trail.old xs }
-    ensures stays { (i : ℕ) (s : List ℕ) → i < rest → run trail.new.frames.items i s ≡ run trail.old.frames.items i s }
+    ensures marks { captures trail.new.marks.items ≡ captures trail.old.marks.items }
+    ensures tried { (s : List ℕ) (xs : List Attempt)
+        → to_try s trail.new xs ≡ to_try s trail.old xs }
+    ensures stays { (i : ℕ) (s : List ℕ) → i < rest
+        → run trail.new.frames.items i s ≡ run trail.old.frames.items i s }
     ensures deep { (i : ℕ) → i < rest → i ≤ length trail.new.frames.items }
     ensures sound { Sound trail.new }
     ensures fit { (ok : Cursor → Bool) → Fit ok trail.old → Fit ok trail.new }

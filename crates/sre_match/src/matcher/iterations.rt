@@ -1,10 +1,9 @@
 //! Turns of the matcher at an iteration of a repeat.
 
-ghost use Rattle.sre_match.specs.Captures.{captures};
 ghost use Rattle.sre_match.specs.Cursor.{Cursor};
-ghost use Rattle.sre_match.specs.Fits.{Placed, Stays};
+ghost use Rattle.sre_match.specs.Fits.{Stays, Ready};
 ghost use Rattle.std.specs.Prelude.{◌≡◌, ◌+◌, ◌<◌, ◌≤◌, ℕ, Bool, List, ◌++◌, true, false, Some, length};
-ghost use Rattle.sre_match.specs.Machine.{run, part_next, to_try, Sound, Gives, StaysSound};
+ghost use Rattle.sre_match.specs.Machine.{part_next, Gives, iteration, Linked, rest_of, tried_at, trying};
 ghost use Rattle.sre_match.specs.Attempts.{after};
 ghost use Rattle.sre_match.specs.Paths.{paths};
 ghost use Rattle.sre_match.specs.Repeats.{repeat_paths, optional, is_past};
@@ -36,11 +35,12 @@ fn once_first<'t>(
     current: &mut Current<'t>,
     trail: &mut Trail<'t>,
 ) -> Turn
-    requires sound { Sound trail.old }
-    requires deep { current.old.rest ≤ length trail.old.frames.items }
-    ensures gives { (s : List ℕ) (n : ℕ) → Gives result current.new s trail.new n n (to_try s trail.old (after (after (paths body.now s current.old.cursor.place (captures trail.old.marks.items)) (optional (paths body.now s) true room (Some current.old.cursor.place))) (run trail.old.frames.items current.old.rest s) ++ run trail.old.frames.items current.old.rest s current.old.cursor.place (captures trail.old.marks.items))) }
-    ensures sound { StaysSound result current.new trail.new }
-    ensures placed { (ok : Cursor → Bool) → Placed ok current.old trail.old → Stays result ok current.new trail.new }
+    requires linked { Linked current.old trail.old }
+    ensures gives { (s : List ℕ) (n : ℕ) → Gives result current.new s trail.new n n
+        (let k = rest_of current.old s trail.old in tried_at
+        (λ p m. after (iteration body.now s true room p m) k ++ k p m) current.old s trail.old) }
+    ensures ready { (ok : Cursor → Bool) → Ready ok current.old trail.old
+        → Stays result ok current.new trail.new }
 {
     let Ok(()) = keep(
         trail,
@@ -74,11 +74,12 @@ fn once_later<'t>(
     current: &mut Current<'t>,
     trail: &mut Trail<'t>,
 ) -> Turn
-    requires sound { Sound trail.old }
-    requires deep { current.old.rest ≤ length trail.old.frames.items }
-    ensures gives { (s : List ℕ) (n : ℕ) → Gives result current.new s trail.new n n (to_try s trail.old (run trail.old.frames.items current.old.rest s current.old.cursor.place (captures trail.old.marks.items) ++ after (after (paths body.now s current.old.cursor.place (captures trail.old.marks.items)) (optional (paths body.now s) false room (Some current.old.cursor.place))) (run trail.old.frames.items current.old.rest s))) }
-    ensures sound { StaysSound result current.new trail.new }
-    ensures placed { (ok : Cursor → Bool) → Placed ok current.old trail.old → Stays result ok current.new trail.new }
+    requires linked { Linked current.old trail.old }
+    ensures gives { (s : List ℕ) (n : ℕ) → Gives result current.new s trail.new n n
+        (let k = rest_of current.old s trail.old in tried_at
+        (λ p m. k p m ++ after (iteration body.now s false room p m) k) current.old s trail.old) }
+    ensures ready { (ok : Cursor → Bool) → Ready ok current.old trail.old
+        → Stays result ok current.new trail.new }
 {
     let Ok(()) = keep(
         trail,
@@ -102,11 +103,11 @@ pub fn optional_turn<'t>(
     current: &mut Current<'t>,
     trail: &mut Trail<'t>,
 ) -> Turn
-    requires sound { Sound trail.old }
-    requires deep { current.old.rest ≤ length trail.old.frames.items }
-    ensures gives { (s : List ℕ) (n : ℕ) → Gives result current.new s trail.new n n (to_try s trail.old (after (optional (paths body.now s) greedy room previous current.old.cursor.place (captures trail.old.marks.items)) (run trail.old.frames.items current.old.rest s))) }
-    ensures sound { StaysSound result current.new trail.new }
-    ensures placed { (ok : Cursor → Bool) → Placed ok current.old trail.old → Stays result ok current.new trail.new }
+    requires linked { Linked current.old trail.old }
+    ensures gives { (s : List ℕ) (n : ℕ) → Gives result current.new s trail.new n n
+        (trying (optional (paths body.now s) greedy room previous) current.old s trail.old) }
+    ensures ready { (ok : Cursor → Bool) → Ready ok current.old trail.old
+        → Stays result ok current.new trail.new }
 {
     if room == 0 || !is_past(previous, current.cursor.place) {
         current.part = Part::Skip;
@@ -128,11 +129,11 @@ pub fn rep_turn<'t>(
     current: &mut Current<'t>,
     trail: &mut Trail<'t>,
 ) -> Turn
-    requires sound { Sound trail.old }
-    requires deep { current.old.rest ≤ length trail.old.frames.items }
-    ensures gives { (s : List ℕ) (n : ℕ) → Gives result current.new s trail.new n n (to_try s trail.old (after (repeat_paths (paths body.now s) greedy left room current.old.cursor.place (captures trail.old.marks.items)) (run trail.old.frames.items current.old.rest s))) }
-    ensures sound { StaysSound result current.new trail.new }
-    ensures placed { (ok : Cursor → Bool) → Placed ok current.old trail.old → Stays result ok current.new trail.new }
+    requires linked { Linked current.old trail.old }
+    ensures gives { (s : List ℕ) (n : ℕ) → Gives result current.new s trail.new n n
+        (trying (repeat_paths (paths body.now s) greedy left room) current.old s trail.old) }
+    ensures ready { (ok : Cursor → Bool) → Ready ok current.old trail.old
+        → Stays result ok current.new trail.new }
 {
     if left == 0 {
         return optional_turn(body, greedy, room, None, current, trail);
@@ -160,11 +161,11 @@ fn iteration_turn<'t>(
     current: &mut Current<'t>,
     trail: &mut Trail<'t>,
 ) -> Turn
-    requires sound { Sound trail.old }
-    requires deep { current.old.rest ≤ length trail.old.frames.items }
-    ensures gives { (s : List ℕ) (n : ℕ) → Gives result current.new s trail.new n n (to_try s trail.old (after (part_next (Part.Once body.entry room) s current.old.cursor.place (captures trail.old.marks.items)) (run trail.old.frames.items current.old.rest s))) }
-    ensures sound { StaysSound result current.new trail.new }
-    ensures placed { (ok : Cursor → Bool) → Placed ok current.old trail.old → Stays result ok current.new trail.new }
+    requires linked { Linked current.old trail.old }
+    ensures gives { (s : List ℕ) (n : ℕ) → Gives result current.new s trail.new n n
+        (trying (part_next (Part.Once body.entry room) s) current.old s trail.old) }
+    ensures ready { (ok : Cursor → Bool) → Ready ok current.old trail.old
+        → Stays result ok current.new trail.new }
 {
     let again = Task::Again {
         greedy: false,
@@ -191,13 +192,11 @@ pub fn once_turn<'t, S: StrDrive, L: Ledger>(
     trail: &mut Trail<'t>,
     steps: &mut Steps<L>,
 ) -> Turn
-    requires sound { Sound trail.old }
-    requires deep { current.old.rest ≤ length trail.old.frames.items }
-    requires placed { Placed (S.fits s.now) current.old trail.old }
+    requires ready { Ready (S.fits s.now) current.old trail.old }
     requires counter { S.counts L.name }
-    ensures gives { Gives result current.new s.now trail.new steps.old steps.new (to_try s.now trail.old (after (part_next (Part.Once body.entry room) s.now current.old.cursor.place (captures trail.old.marks.items)) (run trail.old.frames.items current.old.rest s.now))) }
-    ensures sound { StaysSound result current.new trail.new }
-    ensures placed { Stays result (S.fits s.now) current.new trail.new }
+    ensures gives { Gives result current.new s.now trail.new steps.old steps.new
+        (trying (part_next (Part.Once body.entry room) s.now) current.old s.now trail.old) }
+    ensures ready { Stays result (S.fits s.now) current.new trail.new }
 {
     match only_single(body) {
         None => iteration_turn(body, room, current, trail),

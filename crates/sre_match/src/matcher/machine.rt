@@ -2,10 +2,10 @@
 
 ghost use Rattle.sre_match.specs.Captures.{captures};
 ghost use Rattle.sre_match.specs.Cursor.{Cursor};
-ghost use Rattle.sre_match.specs.Fits.{task_fits, Fit, Placed, Stays, Remains};
+ghost use Rattle.sre_match.specs.Fits.{task_fits, Fit, Stays, Remains, Ready};
 ghost use Rattle.std.specs.Prelude.{◌≡◌, ◌+◌, ◌≤◌, ℕ, Bool, true, List, [], None, IfOk, IfSome, option_map, length};
-ghost use Rattle.sre_match.specs.Machine.{run, part_next, task_next, to_try, ahead_of, Sound, Gives, StaysSound, Leaves, Leads, Lands, outcome_at};
-ghost use Rattle.sre_match.specs.Attempts.{after, chosen, cost_of};
+ghost use Rattle.sre_match.specs.Machine.{part_next, task_next, to_try, ahead_of, Sound, Gives, Leaves, Leads, outcome_at, rest_of, tried_at, trying};
+ghost use Rattle.sre_match.specs.Attempts.{chosen, cost_of};
 ghost use Rattle.sre_match.specs.Paths.{paths};
 ghost use Rattle.sre_code.specs.TreeView.{tree_of};
 ghost use Rattle.sre_match.specs.Matches.{is_allowed, first_allowed, reads};
@@ -53,14 +53,12 @@ fn task_turn<'t, S: StrDrive, L: Ledger>(
     trail: &mut Trail<'t>,
     steps: &mut Steps<L>,
 ) -> Turn
-    requires sound { Sound trail.old }
-    requires deep { current.old.rest ≤ length trail.old.frames.items }
+    requires ready { Ready (S.fits s.now) current.old trail.old }
     requires task { task_fits (S.fits s.now) task ≡ true }
-    requires placed { Placed (S.fits s.now) current.old trail.old }
     requires counter { S.counts L.name }
-    ensures gives { Gives result current.new s.now trail.new steps.old steps.new (to_try s.now trail.old (after (task_next task.entry s.now current.old.cursor.place (captures trail.old.marks.items)) (run trail.old.frames.items current.old.rest s.now))) }
-    ensures sound { StaysSound result current.new trail.new }
-    ensures placed { Stays result (S.fits s.now) current.new trail.new }
+    ensures gives { Gives result current.new s.now trail.new steps.old steps.new
+        (trying (task_next task.entry s.now) current.old s.now trail.old) }
+    ensures ready { Stays result (S.fits s.now) current.new trail.new }
 {
     match task {
         Task::Then(nodes) => nodes_turn(nodes, s, current, trail, steps),
@@ -87,13 +85,11 @@ fn rest_turn<'t, S: StrDrive, L: Ledger>(
     trail: &mut Trail<'t>,
     steps: &mut Steps<L>,
 ) -> Turn
-    requires sound { Sound trail.old }
-    requires deep { current.old.rest ≤ length trail.old.frames.items }
-    requires placed { Placed (S.fits s.now) current.old trail.old }
+    requires ready { Ready (S.fits s.now) current.old trail.old }
     requires counter { S.counts L.name }
-    ensures gives { Gives result current.new s.now trail.new steps.old steps.new (to_try s.now trail.old (run trail.old.frames.items current.old.rest s.now current.old.cursor.place (captures trail.old.marks.items))) }
-    ensures sound { StaysSound result current.new trail.new }
-    ensures placed { Stays result (S.fits s.now) current.new trail.new }
+    ensures gives { Gives result current.new s.now trail.new steps.old steps.new
+        (tried_at (rest_of current.old s.now trail.old) current.old s.now trail.old) }
+    ensures ready { Stays result (S.fits s.now) current.new trail.new }
 {
     let rest = current.rest;
     if rest == 0 {
@@ -115,13 +111,11 @@ fn take_turn<'t, S: StrDrive, L: Ledger>(
     trail: &mut Trail<'t>,
     steps: &mut Steps<L>,
 ) -> Turn
-    requires sound { Sound trail.old }
-    requires deep { current.old.rest ≤ length trail.old.frames.items }
-    requires placed { Placed (S.fits s.now) current.old trail.old }
+    requires ready { Ready (S.fits s.now) current.old trail.old }
     requires counter { S.counts L.name }
-    ensures gives { Gives result current.new s.now trail.new steps.old steps.new (ahead_of current.old s.now trail.old) }
-    ensures sound { StaysSound result current.new trail.new }
-    ensures placed { Stays result (S.fits s.now) current.new trail.new }
+    ensures gives { Gives result current.new s.now trail.new steps.old steps.new
+        (ahead_of current.old s.now trail.old) }
+    ensures ready { Stays result (S.fits s.now) current.new trail.new }
 {
     match current.part {
         Part::Skip => rest_turn(s, current, trail, steps),
@@ -141,9 +135,10 @@ fn take_turn<'t, S: StrDrive, L: Ledger>(
 // Goes on with the newest choice.
 fn retry<'t>(current: &mut Current<'t>, trail: &mut Trail<'t>) -> Progress
     requires { Sound trail.old }
-    ensures leads { (ok : ℕ → Bool) (s : List ℕ) (n : ℕ) → Leads result current.new ok s trail.new n n (to_try s trail.old []) }
-    ensures lands { Lands result current.new trail.new }
-    ensures placed { (ok : Cursor → Bool) → Fit ok trail.old → Remains result ok current.new trail.new }
+    ensures leads { (ok : ℕ → Bool) (s : List ℕ) (n : ℕ)
+        → Leads result current.new ok s trail.new n n (to_try s trail.old []) }
+    ensures ready { (ok : Cursor → Bool)
+        → Fit ok trail.old → Remains result ok current.new trail.new }
 {
     if go_back(current, trail) {
         Progress::More
@@ -162,13 +157,12 @@ fn next_turn<'t, S: StrDrive, L: Ledger>(
     whole: bool,
     steps: &mut Steps<L>,
 ) -> Progress
-    requires sound { Sound trail.old }
-    requires deep { current.old.rest ≤ length trail.old.frames.items }
-    requires placed { Placed (S.fits s.now) current.old trail.old }
+    requires ready { Ready (S.fits s.now) current.old trail.old }
     requires counter { S.counts L.name }
-    ensures leads { Leads result current.new (is_allowed s.now start advance whole) s.now trail.new steps.old steps.new (ahead_of current.old s.now trail.old) }
-    ensures lands { Lands result current.new trail.new }
-    ensures placed { Remains result (S.fits s.now) current.new trail.new }
+    ensures leads { let is_end = is_allowed s.now start advance whole in
+        Leads result current.new is_end s.now trail.new steps.old steps.new
+        (ahead_of current.old s.now trail.old) }
+    ensures ready { Remains result (S.fits s.now) current.new trail.new }
 {
     match take_turn(s, current, trail, steps) {
         Turn::Go => Progress::More,
@@ -184,8 +178,8 @@ fn next_turn<'t, S: StrDrive, L: Ledger>(
     }
 }
 
-// Where a tree begins at a cursor. A first node that is one unit is read at once; none says that it is
-// not met.
+// Where a tree begins at a cursor. A first node that is one unit is read at once; none says that it
+// is not met.
 fn first_current<'t, S: StrDrive, L: Ledger>(
     nodes: &'t [Node],
     s: &Subject<'_, S>,
@@ -194,10 +188,13 @@ fn first_current<'t, S: StrDrive, L: Ledger>(
 ) -> Option<Current<'t>>
     requires fits { S.fits s.now cursor.now ≡ true }
     requires counter { S.counts L.name }
-    ensures begins { IfSome result (λ current. Leaves steps.old steps.new (paths (tree_of nodes.entry.now) s.now cursor.now.place []) (part_next current.part s.now current.cursor.place [])) }
+    ensures begins { IfSome result (λ current. Leaves steps.old steps.new
+        (paths (tree_of nodes.entry.now) s.now cursor.now.place [])
+        (part_next current.part s.now current.cursor.place [])) }
     ensures rest { IfSome result (λ current. current.rest ≡ 0) }
     ensures fits { IfSome result (λ current. S.fits s.now current.cursor ≡ true) }
-    ensures fails { result ≡ None → Leaves steps.old steps.new (paths (tree_of nodes.entry.now) s.now cursor.now.place []) [] }
+    ensures fails { result ≡ None → Leaves steps.old steps.new
+        (paths (tree_of nodes.entry.now) s.now cursor.now.place []) [] }
 {
     let whole = Current {
         part: Part::Nodes(nodes),
@@ -234,13 +231,13 @@ fn run_from<'t, S: StrDrive, L: Ledger>(
     whole: bool,
     steps: &mut Steps<L>,
 ) -> Result<Option<StringCursor>, AllocError>
-    requires sound { Sound trail.old }
-    requires deep { current.rest ≤ length trail.old.frames.items }
-    requires placed { Placed (S.fits s.now) current trail.old }
+    requires ready { Ready (S.fits s.now) current trail.old }
     requires counter { S.counts L.name }
     ensures fits { IfOk result (λ o. IfSome o (λ c. S.fits s.now c ≡ true)) }
-    ensures found { IfOk result (λ o. option_map (outcome_at (captures trail.new.marks.items)) o ≡ chosen (is_allowed s.now start advance whole) (ahead_of current.entry s.now trail.old)) }
-    ensures cost { steps.new ≤ steps.old + cost_of (is_allowed s.now start advance whole) (ahead_of current.entry s.now trail.old) }
+    ensures found { IfOk result (λ o. option_map (outcome_at (captures trail.new.marks.items)) o
+        ≡ chosen (is_allowed s.now start advance whole) (ahead_of current.entry s.now trail.old)) }
+    ensures cost { let is_end = is_allowed s.now start advance whole in
+        steps.new ≤ steps.old + cost_of is_end (ahead_of current.entry s.now trail.old) }
 {
     let mut current = current;
     for _turn in 0..u64::MAX {
@@ -267,7 +264,8 @@ pub fn find_at<'t, S: StrDrive, L: Ledger>(
     requires fits { S.fits s.now start.now ≡ true }
     requires counter { S.counts L.name }
     ensures fits { IfOk result (λ o. IfSome o (λ c. S.fits s.now c ≡ true)) }
-    ensures found { IfOk result (λ o. option_map (outcome_at (captures trail.new.marks.items)) o ≡ first_allowed tree.now s.now start.now.place advance whole) }
+    ensures found { IfOk result (λ o. option_map (outcome_at (captures trail.new.marks.items)) o
+        ≡ first_allowed tree.now s.now start.now.place advance whole) }
     ensures cost { steps.new ≤ steps.old + reads tree.now s.now start.now.place advance whole }
 {
     match first_current(tree.nodes(), s, start, steps) {

@@ -1,10 +1,8 @@
 //! Turns of the matcher at a node.
 
-ghost use Rattle.sre_match.specs.Captures.{captures};
-ghost use Rattle.sre_match.specs.Fits.{Placed, Stays};
+ghost use Rattle.sre_match.specs.Fits.{Stays, Ready};
 ghost use Rattle.std.specs.Prelude.{◌≡◌, ◌≤◌, ◌∷◌, length};
-ghost use Rattle.sre_match.specs.Machine.{run, to_try, Sound, Gives, StaysSound};
-ghost use Rattle.sre_match.specs.Attempts.{after};
+ghost use Rattle.sre_match.specs.Machine.{Gives, trying};
 ghost use Rattle.sre_match.specs.Paths.{paths, node_paths};
 ghost use Rattle.sre_code.specs.PlainTree.{at as at_node};
 ghost use Rattle.sre_code.specs.TreeView.{node_of, tree_of};
@@ -31,13 +29,11 @@ fn anchor_turn<'t, S: StrDrive, L: Ledger>(
     trail: &Trail<'t>,
     steps: &mut Steps<L>,
 ) -> Turn
-    requires sound { Sound trail.now }
-    requires deep { current.old.rest ≤ length trail.now.frames.items }
-    requires placed { Placed (S.fits s.now) current.old trail.now }
+    requires ready { Ready (S.fits s.now) current.old trail.now }
     requires counter { S.counts L.name }
-    ensures gives { Gives result current.new s.now trail.now steps.old steps.new (to_try s.now trail.now (after (node_paths (at_node anchor) s.now current.old.cursor.place (captures trail.now.marks.items)) (run trail.now.frames.items current.old.rest s.now))) }
-    ensures sound { StaysSound result current.new trail.now }
-    ensures placed { Stays result (S.fits s.now) current.new trail.now }
+    ensures gives { Gives result current.new s.now trail.now steps.old steps.new
+        (trying (node_paths (at_node anchor) s.now) current.old s.now trail.now) }
+    ensures ready { Stays result (S.fits s.now) current.new trail.now }
 {
     if is_at_anchor(anchor, s, &current.cursor, steps) {
         current.part = Part::Skip;
@@ -55,13 +51,11 @@ fn node_turn<'t, S: StrDrive, L: Ledger>(
     trail: &mut Trail<'t>,
     steps: &mut Steps<L>,
 ) -> Turn
-    requires sound { Sound trail.old }
-    requires deep { current.old.rest ≤ length trail.old.frames.items }
-    requires placed { Placed (S.fits s.now) current.old trail.old }
+    requires ready { Ready (S.fits s.now) current.old trail.old }
     requires counter { S.counts L.name }
-    ensures gives { Gives result current.new s.now trail.new steps.old steps.new (to_try s.now trail.old (after (node_paths (node_of node.now) s.now current.old.cursor.place (captures trail.old.marks.items)) (run trail.old.frames.items current.old.rest s.now))) }
-    ensures sound { StaysSound result current.new trail.new }
-    ensures placed { Stays result (S.fits s.now) current.new trail.new }
+    ensures gives { Gives result current.new s.now trail.new steps.old steps.new
+        (trying (node_paths (node_of node.now) s.now) current.old s.now trail.old) }
+    ensures ready { Stays result (S.fits s.now) current.new trail.new }
 {
     match node {
         Node::Fail => Turn::Fail,
@@ -94,13 +88,11 @@ fn first_turn<'t, S: StrDrive, L: Ledger>(
     trail: &mut Trail<'t>,
     steps: &mut Steps<L>,
 ) -> Turn
-    requires sound { Sound trail.old }
-    requires deep { current.old.rest ≤ length trail.old.frames.items }
-    requires placed { Placed (S.fits s.now) current.old trail.old }
+    requires ready { Ready (S.fits s.now) current.old trail.old }
     requires counter { S.counts L.name }
-    ensures gives { Gives result current.new s.now trail.new steps.old steps.new (to_try s.now trail.old (after (paths (tree_of (node.now ∷ more.now)) s.now current.old.cursor.place (captures trail.old.marks.items)) (run trail.old.frames.items current.old.rest s.now))) }
-    ensures sound { StaysSound result current.new trail.new }
-    ensures placed { Stays result (S.fits s.now) current.new trail.new }
+    ensures gives { Gives result current.new s.now trail.new steps.old steps.new
+        (trying (paths (tree_of (node.now ∷ more.now)) s.now) current.old s.now trail.old) }
+    ensures ready { Stays result (S.fits s.now) current.new trail.new }
 {
     if is_single(node) {
         return single_turn(node, Part::Nodes(more), s, current, trail, steps);
@@ -122,13 +114,11 @@ pub fn nodes_turn<'t, S: StrDrive, L: Ledger>(
     trail: &mut Trail<'t>,
     steps: &mut Steps<L>,
 ) -> Turn
-    requires sound { Sound trail.old }
-    requires deep { current.old.rest ≤ length trail.old.frames.items }
-    requires placed { Placed (S.fits s.now) current.old trail.old }
+    requires ready { Ready (S.fits s.now) current.old trail.old }
     requires counter { S.counts L.name }
-    ensures gives { Gives result current.new s.now trail.new steps.old steps.new (to_try s.now trail.old (after (paths (tree_of nodes.now) s.now current.old.cursor.place (captures trail.old.marks.items)) (run trail.old.frames.items current.old.rest s.now))) }
-    ensures sound { StaysSound result current.new trail.new }
-    ensures placed { Stays result (S.fits s.now) current.new trail.new }
+    ensures gives { Gives result current.new s.now trail.new steps.old steps.new
+        (trying (paths (tree_of nodes.now) s.now) current.old s.now trail.old) }
+    ensures ready { Stays result (S.fits s.now) current.new trail.new }
 {
     match nodes {
         [] => {

@@ -2,11 +2,11 @@
 
 ghost use Rattle.sre_match.specs.Captures.{captures, span_by, capture_fits};
 ghost use Rattle.sre_match.specs.Cursor.{Cursor};
-ghost use Rattle.sre_match.specs.Fits.{Placed, Stays};
+ghost use Rattle.sre_match.specs.Fits.{Stays, Ready};
 ghost use Rattle.std.specs.List.{All, starts_with};
 ghost use Rattle.std.specs.Prelude.{◌≡◌, ◌+◌, ◌*◌, ◌-◌, ◌≤◌, ℕ, Bool, true, IfSome, option_map, List, Some, drop, length, slice_range, nat_eq};
-ghost use Rattle.sre_match.specs.Machine.{run, to_try, Sound, Gives, StaysSound};
-ghost use Rattle.sre_match.specs.Attempts.{after, span_of};
+ghost use Rattle.sre_match.specs.Machine.{Gives, Linked, trying};
+ghost use Rattle.sre_match.specs.Attempts.{span_of};
 ghost use Rattle.sre_match.specs.Paths.{node_paths, back_reference};
 ghost use Rattle.sre_code.specs.PlainTree.{ref};
 ghost use Rattle.sre_code.specs.TreeView.{node_of};
@@ -23,12 +23,14 @@ use std::sync::ledger::Ledger;
 // The last capture of a group.
 fn capture_of(marks: &Vec<Capture>, group: u32) -> Option<Capture>
     ensures span { option_map span_by result ≡ span_of (captures marks.now.items) group }
-    ensures fits { (ok : Cursor → Bool) → All (capture_fits ok) marks.now.items → IfSome result (capture_fits ok) }
+    ensures fits { (ok : Cursor → Bool)
+        → All (capture_fits ok) marks.now.items → IfSome result (capture_fits ok) }
 {
     capture_in(marks, group as usize)
 }
 
-// Whether the units from a cursor to a place occur again at another cursor, which then moves past them.
+// Whether the units from a cursor to a place occur again at another cursor, which then moves past
+// them.
 fn same_text<S: StrDrive, L: Ledger>(
     s: &Subject<'_, S>,
     from: &StringCursor,
@@ -40,7 +42,8 @@ fn same_text<S: StrDrive, L: Ledger>(
     requires from_fits { S.fits s.now from.now ≡ true }
     requires fits { S.fits s.now cursor.old ≡ true }
     requires counter { S.counts L.name }
-    ensures same { result ≡ starts_with nat_eq (drop cursor.old.place s.now) (slice_range s.now from.now.place stop) }
+    ensures same { let text = slice_range s.now from.now.place stop in
+        result ≡ starts_with nat_eq (drop cursor.old.place s.now) text }
     ensures fits { S.fits s.now cursor.new ≡ true }
     ensures place { result ≡ true → cursor.new.place ≡ cursor.old.place + (stop - from.now.place) }
     ensures cost { steps.new ≤ steps.old + 2 * length (slice_range s.now from.now.place stop) }
@@ -77,13 +80,11 @@ fn span_again_turn<'t, S: StrDrive, L: Ledger>(
 ) -> Turn
     requires stop { stop ≤ length s.now }
     requires from_fits { S.fits s.now from.now ≡ true }
-    requires sound { Sound trail.now }
-    requires deep { current.old.rest ≤ length trail.now.frames.items }
-    requires placed { Placed (S.fits s.now) current.old trail.now }
+    requires ready { Ready (S.fits s.now) current.old trail.now }
     requires counter { S.counts L.name }
-    ensures gives { Gives result current.new s.now trail.now steps.old steps.new (to_try s.now trail.now (after (back_reference (Some (from.now.place, stop)) s.now current.old.cursor.place (captures trail.now.marks.items)) (run trail.now.frames.items current.old.rest s.now))) }
-    ensures sound { StaysSound result current.new trail.now }
-    ensures placed { Stays result (S.fits s.now) current.new trail.now }
+    ensures gives { Gives result current.new s.now trail.now steps.old steps.new
+        (trying (back_reference (Some (from.now.place, stop)) s.now) current.old s.now trail.now) }
+    ensures ready { Stays result (S.fits s.now) current.new trail.now }
 {
     if same_text(s, from, stop, &mut current.cursor, steps) {
         current.part = Part::Skip;
@@ -101,13 +102,11 @@ pub fn back_reference_turn<'t, S: StrDrive, L: Ledger>(
     trail: &Trail<'t>,
     steps: &mut Steps<L>,
 ) -> Turn
-    requires sound { Sound trail.now }
-    requires deep { current.old.rest ≤ length trail.now.frames.items }
-    requires placed { Placed (S.fits s.now) current.old trail.now }
+    requires ready { Ready (S.fits s.now) current.old trail.now }
     requires counter { S.counts L.name }
-    ensures gives { Gives result current.new s.now trail.now steps.old steps.new (to_try s.now trail.now (after (node_paths (ref group) s.now current.old.cursor.place (captures trail.now.marks.items)) (run trail.now.frames.items current.old.rest s.now))) }
-    ensures sound { StaysSound result current.new trail.now }
-    ensures placed { Stays result (S.fits s.now) current.new trail.now }
+    ensures gives { Gives result current.new s.now trail.now steps.old steps.new
+        (trying (node_paths (ref group) s.now) current.old s.now trail.now) }
+    ensures ready { Stays result (S.fits s.now) current.new trail.now }
 {
     match capture_of(&trail.marks, group) {
         None => Turn::Fail,
@@ -130,11 +129,12 @@ pub fn conditional_turn<'t>(
     current: &mut Current<'t>,
     trail: &Trail<'t>,
 ) -> Turn
-    requires sound { Sound trail.now }
-    requires deep { current.old.rest ≤ length trail.now.frames.items }
-    ensures gives { (s : List ℕ) (k : ℕ) → Gives result current.new s trail.now k k (to_try s trail.now (after (node_paths (node_of (Node.Exists group yes.now no.now)) s current.old.cursor.place (captures trail.now.marks.items)) (run trail.now.frames.items current.old.rest s))) }
-    ensures sound { StaysSound result current.new trail.now }
-    ensures placed { (ok : Cursor → Bool) → Placed ok current.old trail.now → Stays result ok current.new trail.now }
+    requires linked { Linked current.old trail.now }
+    ensures gives { (s : List ℕ) (k : ℕ) → let next = Node.Exists group yes.now no.now in
+        Gives result current.new s trail.now k k
+        (trying (node_paths (node_of next) s) current.old s trail.now) }
+    ensures ready { (ok : Cursor → Bool) → Ready ok current.old trail.now
+        → Stays result ok current.new trail.now }
 {
     if capture_of(&trail.marks, group).is_some() {
         return tree_turn(yes, current, trail);

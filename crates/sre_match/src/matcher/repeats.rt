@@ -1,11 +1,9 @@
 //! Turns of the matcher at a repeat.
 
-ghost use Rattle.sre_match.specs.Captures.{captures};
 ghost use Rattle.sre_match.specs.Cursor.{Cursor};
-ghost use Rattle.sre_match.specs.Fits.{Placed, Stays};
+ghost use Rattle.sre_match.specs.Fits.{Stays, Ready};
 ghost use Rattle.std.specs.Prelude.{◌≡◌, ◌+◌, ◌<◌, ◌≤◌, ◌^◌, ℕ, Bool, List, true, false, Some, length};
-ghost use Rattle.sre_match.specs.Machine.{run, kind_paths, to_try, Sound, Gives, StaysSound};
-ghost use Rattle.sre_match.specs.Attempts.{after, cut};
+ghost use Rattle.sre_match.specs.Machine.{kind_paths, Gives, Linked, trying};
 ghost use Rattle.sre_match.specs.Paths.{paths, node_paths};
 ghost use Rattle.sre_match.specs.Repeats.{repeat_paths, room_in};
 ghost use Rattle.sre_match.specs.Singles.{is_single};
@@ -53,13 +51,11 @@ fn greedy_turn<'t, S: StrDrive, L: Ledger>(
     requires single { is_single (node_of node.now) ≡ true }
     requires only { body.now ≡ node_of node.now then nothing }
     requires room { room < 2 ^ 63 + 2 }
-    requires sound { Sound trail.old }
-    requires deep { current.old.rest ≤ length trail.old.frames.items }
-    requires placed { Placed (S.fits s.now) current.old trail.old }
+    requires ready { Ready (S.fits s.now) current.old trail.old }
     requires counter { S.counts L.name }
-    ensures gives { Gives result current.new s.now trail.new steps.old steps.new (to_try s.now trail.old (after (repeat_paths (paths body.now s.now) true least room current.old.cursor.place (captures trail.old.marks.items)) (run trail.old.frames.items current.old.rest s.now))) }
-    ensures sound { StaysSound result current.new trail.new }
-    ensures placed { Stays result (S.fits s.now) current.new trail.new }
+    ensures gives { Gives result current.new s.now trail.new steps.old steps.new
+        (trying (repeat_paths (paths body.now s.now) true least room) current.old s.now trail.old) }
+    ensures ready { Stays result (S.fits s.now) current.new trail.new }
 {
     let fewest = least as usize;
     let n = run_length(node, fewest + room, s, &mut current.cursor, steps);
@@ -83,13 +79,12 @@ fn possessive_turn<'t, S: StrDrive, L: Ledger>(
     requires single { is_single (node_of node.now) ≡ true }
     requires only { body.now ≡ node_of node.now then nothing }
     requires room { room < 2 ^ 63 + 2 }
-    requires sound { Sound trail.now }
-    requires deep { current.old.rest ≤ length trail.now.frames.items }
-    requires placed { Placed (S.fits s.now) current.old trail.now }
+    requires ready { Ready (S.fits s.now) current.old trail.now }
     requires counter { S.counts L.name }
-    ensures gives { Gives result current.new s.now trail.now steps.old steps.new (to_try s.now trail.now (after (cut (repeat_paths (paths body.now s.now) true least room current.old.cursor.place (captures trail.now.marks.items))) (run trail.now.frames.items current.old.rest s.now))) }
-    ensures sound { StaysSound result current.new trail.now }
-    ensures placed { Stays result (S.fits s.now) current.new trail.now }
+    ensures gives { Gives result current.new s.now trail.now steps.old steps.new
+        (trying (kind_paths RepeatKind.Possessive (paths body.now s.now) least room)
+        current.old s.now trail.now) }
+    ensures ready { Stays result (S.fits s.now) current.new trail.now }
 {
     let fewest = least as usize;
     let n = run_length(node, fewest + room, s, &mut current.cursor, steps);
@@ -108,11 +103,12 @@ fn whole_turn<'t>(
     current: &mut Current<'t>,
     trail: &mut Trail<'t>,
 ) -> Turn
-    requires sound { Sound trail.old }
-    requires deep { current.old.rest ≤ length trail.old.frames.items }
-    ensures gives { (s : List ℕ) (n : ℕ) → Gives result current.new s trail.new n n (to_try s trail.old (after (cut (repeat_paths (paths body.now s) true least room current.old.cursor.place (captures trail.old.marks.items))) (run trail.old.frames.items current.old.rest s))) }
-    ensures sound { StaysSound result current.new trail.new }
-    ensures placed { (ok : Cursor → Bool) → Placed ok current.old trail.old → Stays result ok current.new trail.new }
+    requires linked { Linked current.old trail.old }
+    ensures gives { (s : List ℕ) (n : ℕ) → Gives result current.new s trail.new n n
+        (trying (kind_paths RepeatKind.Possessive (paths body.now s) least room)
+        current.old s trail.old) }
+    ensures ready { (ok : Cursor → Bool) → Ready ok current.old trail.old
+        → Stays result ok current.new trail.new }
 {
     let Ok(()) = keep(
         trail,
@@ -142,13 +138,11 @@ fn single_repeat<'t, S: StrDrive, L: Ledger>(
     requires single { is_single (node_of node.now) ≡ true }
     requires only { body.now ≡ node_of node.now then nothing }
     requires room { room < 2 ^ 63 + 2 }
-    requires sound { Sound trail.old }
-    requires deep { current.old.rest ≤ length trail.old.frames.items }
-    requires placed { Placed (S.fits s.now) current.old trail.old }
+    requires ready { Ready (S.fits s.now) current.old trail.old }
     requires counter { S.counts L.name }
-    ensures gives { Gives result current.new s.now trail.new steps.old steps.new (to_try s.now trail.old (after (kind_paths kind (paths body.now s.now) least room current.old.cursor.place (captures trail.old.marks.items)) (run trail.old.frames.items current.old.rest s.now))) }
-    ensures sound { StaysSound result current.new trail.new }
-    ensures placed { Stays result (S.fits s.now) current.new trail.new }
+    ensures gives { Gives result current.new s.now trail.new steps.old steps.new
+        (trying (kind_paths kind (paths body.now s.now) least room) current.old s.now trail.old) }
+    ensures ready { Stays result (S.fits s.now) current.new trail.new }
 {
     match kind {
         RepeatKind::Greedy => greedy_turn(body, node, least, room, s, current, trail, steps),
@@ -168,11 +162,11 @@ fn general_repeat<'t>(
     current: &mut Current<'t>,
     trail: &mut Trail<'t>,
 ) -> Turn
-    requires sound { Sound trail.old }
-    requires deep { current.old.rest ≤ length trail.old.frames.items }
-    ensures gives { (s : List ℕ) (n : ℕ) → Gives result current.new s trail.new n n (to_try s trail.old (after (kind_paths kind (paths body.now s) least room current.old.cursor.place (captures trail.old.marks.items)) (run trail.old.frames.items current.old.rest s))) }
-    ensures sound { StaysSound result current.new trail.new }
-    ensures placed { (ok : Cursor → Bool) → Placed ok current.old trail.old → Stays result ok current.new trail.new }
+    requires linked { Linked current.old trail.old }
+    ensures gives { (s : List ℕ) (n : ℕ) → Gives result current.new s trail.new n n
+        (trying (kind_paths kind (paths body.now s) least room) current.old s trail.old) }
+    ensures ready { (ok : Cursor → Bool) → Ready ok current.old trail.old
+        → Stays result ok current.new trail.new }
 {
     match kind {
         RepeatKind::Greedy => rep_turn(body, true, least, room, current, trail),
@@ -192,13 +186,12 @@ pub fn repeat_turn<'t, S: StrDrive, L: Ledger>(
     trail: &mut Trail<'t>,
     steps: &mut Steps<L>,
 ) -> Turn
-    requires sound { Sound trail.old }
-    requires deep { current.old.rest ≤ length trail.old.frames.items }
-    requires placed { Placed (S.fits s.now) current.old trail.old }
+    requires ready { Ready (S.fits s.now) current.old trail.old }
     requires counter { S.counts L.name }
-    ensures gives { (one_wide : Bool) → Gives result current.new s.now trail.new steps.old steps.new (to_try s.now trail.old (after (node_paths (repeat kind one_wide least greatest body.now) s.now current.old.cursor.place (captures trail.old.marks.items)) (run trail.old.frames.items current.old.rest s.now))) }
-    ensures sound { StaysSound result current.new trail.new }
-    ensures placed { Stays result (S.fits s.now) current.new trail.new }
+    ensures gives { (one_wide : Bool) → Gives result current.new s.now trail.new steps.old steps.new
+        (trying (node_paths (repeat kind one_wide least greatest body.now) s.now)
+        current.old s.now trail.old) }
+    ensures ready { Stays result (S.fits s.now) current.new trail.new }
 {
     let room = room_in(s.count(), least, greatest);
     match only_single(body) {

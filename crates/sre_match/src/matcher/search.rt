@@ -25,8 +25,11 @@ pub fn first_end<'c, S: StrDrive, L: Ledger>(
     requires fits { S.fits request.now.subject start.now ≡ true }
     requires counter { S.counts L.name }
     ensures fits { IfOk result (λ o. IfSome o (λ c. S.fits request.now.subject c ≡ true)) }
-    ensures found { IfOk result (λ o. option_map (outcome_at (captures trail.new.marks.items)) o ≡ first_allowed request.now.tree request.now.subject start.now.place advance request.now.whole) }
-    ensures cost { steps.new ≤ steps.old + reads request.now.tree request.now.subject start.now.place advance request.now.whole }
+    ensures found { let r = request.now in
+        IfOk result (λ o. option_map (outcome_at (captures trail.new.marks.items)) o
+        ≡ first_allowed r.tree r.subject start.now.place advance r.whole) }
+    ensures cost { let r = request.now in
+        steps.new ≤ steps.old + reads r.tree r.subject start.now.place advance r.whole }
 {
     let subject = Subject::new(&request.string, request.end);
     let code = request.code;
@@ -58,7 +61,8 @@ fn one_on<S: StrDrive>(request: &Request<'_, S>, cursor: &StringCursor) -> Optio
     Some(moved)
 }
 
-/// The least place from a cursor on that has an allowed outcome, and its end. The trail then has its marks.
+/// The least place from a cursor on that has an allowed outcome, and its end. The trail then has
+/// its marks.
 pub fn next_ends<'c, S: StrDrive, L: Ledger>(
     request: &Request<'c, S>,
     trail: &mut Trail<'c>,
@@ -69,8 +73,11 @@ pub fn next_ends<'c, S: StrDrive, L: Ledger>(
     requires fits { S.fits request.now.subject from.now ≡ true }
     requires counter { S.counts L.name }
     ensures fits { IfOk result (λ o. IfSome o (λ x. S.fits request.now.subject x.1 ≡ true)) }
-    ensures found { IfOk result (λ o. option_map (span_with (captures trail.new.marks.items)) o ≡ next_span request.now.tree request.now.subject from.now.place advance request.now.whole) }
-    ensures cost { steps.new ≤ steps.old + next_reads request.now.tree request.now.subject from.now.place advance request.now.whole }
+    ensures found { let r = request.now in
+        IfOk result (λ o. option_map (span_with (captures trail.new.marks.items)) o
+        ≡ next_span r.tree r.subject from.now.place advance r.whole) }
+    ensures cost { let r = request.now in
+        steps.new ≤ steps.old + next_reads r.tree r.subject from.now.place advance r.whole }
 {
     let mut start = *from;
     let mut moves = advance;

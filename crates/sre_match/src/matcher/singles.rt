@@ -1,11 +1,10 @@
 //! Nodes that are one unit.
 
-ghost use Rattle.sre_match.specs.Captures.{captures};
 ghost use Rattle.std.specs.Prelude.{◌≡◌, ◌≢◌, ◌+◌, ◌<◌, ◌≤◌, ◌^◌, ℕ, true, length, IfSome};
-ghost use Rattle.sre_match.specs.Machine.{onward, part_next, to_try, Sound, Gives, StaysSound};
+ghost use Rattle.sre_match.specs.Machine.{onward, part_next, Gives, tried_at};
 ghost use Rattle.sre_match.specs.Attempts.{after};
-ghost use Rattle.sre_match.specs.Fits.{Placed, Stays};
-ghost use Rattle.sre_match.specs.Paths.{attempt};
+ghost use Rattle.sre_match.specs.Fits.{Stays, Ready};
+ghost use Rattle.sre_match.specs.Paths.{unit};
 ghost use Rattle.sre_match.specs.Anchors.{met_at};
 ghost use Rattle.sre_match.specs.Singles.{is_single, meets, run_of, run_cost};
 ghost use Rattle.sre_code.specs.PlainTree.{nothing, ◌then◌};
@@ -96,13 +95,14 @@ pub fn single_turn<'t, S: StrDrive, L: Ledger>(
     trail: &Trail<'t>,
     steps: &mut Steps<L>,
 ) -> Turn
-    requires sound { Sound trail.now }
-    requires deep { current.old.rest ≤ length trail.now.frames.items }
-    requires placed { Placed (S.fits s.now) current.old trail.now }
+    requires ready { Ready (S.fits s.now) current.old trail.now }
     requires counter { S.counts L.name }
-    ensures gives { Gives result current.new s.now trail.now steps.old steps.new (to_try s.now trail.now (after (attempt (met_at (meets (node_of node.now)) s.now current.old.cursor.place) 1 (current.old.cursor.place + 1) (captures trail.now.marks.items)) (onward trail.now.frames.items (part_next part.entry s.now) current.old.rest s.now))) }
-    ensures sound { StaysSound result current.new trail.now }
-    ensures placed { Stays result (S.fits s.now) current.new trail.now }
+    ensures gives { Gives result current.new s.now trail.now steps.old steps.new
+        (let next = part_next part.entry s.now in
+        let k = onward trail.now.frames.items next current.old.rest s.now in
+        tried_at (λ p m. after (unit (meets (node_of node.now)) s.now p m) k)
+        current.old s.now trail.now) }
+    ensures ready { Stays result (S.fits s.now) current.new trail.now }
 {
     if is_met(node, s, &current.cursor, steps) {
         current.part = part;
@@ -124,7 +124,8 @@ pub fn only_single(body: &Tree) -> Option<&Node>
     }
 }
 
-/// Moves a cursor on over units that meet a node that is one unit, at most so many, and answers how many.
+/// Moves a cursor on over units that meet a node that is one unit, at most so many, and answers how
+/// many.
 pub fn run_length<S: StrDrive, L: Ledger>(
     node: &Node,
     most: usize,
@@ -138,7 +139,8 @@ pub fn run_length<S: StrDrive, L: Ledger>(
     ensures place { cursor.new.place ≡ cursor.old.place + result }
     ensures fits { S.fits s.now cursor.new ≡ true }
     ensures most { result ≤ most }
-    ensures cost { steps.new ≤ steps.old + run_cost (meets (node_of node.now)) s.now cursor.old.place most }
+    ensures cost { let test = meets (node_of node.now) in
+        steps.new ≤ steps.old + run_cost test s.now cursor.old.place most }
 {
     let mut n = 0;
     while n < most {

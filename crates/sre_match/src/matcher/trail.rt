@@ -7,6 +7,7 @@ ghost use Rattle.std.specs.Prelude.{◌≡◌, Bool, [], ◌<◌};
 
 use crate::marks::Capture;
 use crate::view::StringCursor;
+use crate::view::short::ShortCursor;
 use sre_code::{Node, Tree};
 use std::alloc::Global;
 
@@ -30,7 +31,8 @@ pub enum Part<'t> {
 pub enum Task<'t> {
     /// The rest of some nodes.
     Then(&'t [Node]),
-    /// The mandatory iterations of a repeat: how many are left, and how many optional ones may follow.
+    /// The mandatory iterations of a repeat: how many are left, and how many optional ones may
+    /// follow.
     Mandatory {
         greedy: bool,
         left: u32,
@@ -76,7 +78,8 @@ pub enum Turn {
     Full,
 }
 
-/// What a choice is: more to try, or a part that was entered, of which the first match alone counts.
+/// What a choice is: more to try, or a part that was entered, of which the first match alone
+/// counts.
 #[derive(Clone, Copy, Drop)]
 pub enum ChoiceKind {
     /// One more way to go on.
@@ -89,12 +92,12 @@ pub enum ChoiceKind {
     Not,
 }
 
-/// What is still to be tried: from where, and with how many marks and frames. A subject's every place may
-/// have one, so their numbers are short.
+/// What is still to be tried: from where, and with how many marks and frames. A subject's every
+/// place may have one, so their numbers are short.
 #[derive(Clone, Copy)]
 pub struct Choice<'t> {
     pub part: Part<'t>,
-    pub cursor: StringCursor,
+    pub cursor: ShortCursor,
     pub rest: u32,
     pub frames: u32,
     pub marks: u32,
@@ -112,7 +115,7 @@ pub struct Trail<'t> {
 
 /// A trail without marks, frames and choices.
 pub fn new_trail<'t>(alloc: Global) -> Trail<'t>
-    ensures { (captures result.marks.items) ≡ [] }
+    ensures { captures result.marks.items ≡ [] }
 {
     Trail {
         marks: Vec::new(alloc),
@@ -124,7 +127,7 @@ pub fn new_trail<'t>(alloc: Global) -> Trail<'t>
 
 /// Forgets all, and keeps the room.
 pub fn clear<'t>(trail: &mut Trail<'t>)
-    ensures marks { (captures trail.new.marks.items) ≡ [] }
+    ensures marks { captures trail.new.marks.items ≡ [] }
     ensures frames { trail.new.frames.items ≡ [] }
     ensures choices { trail.new.choices.items ≡ [] }
     ensures levels { trail.new.levels ≡ 0 }

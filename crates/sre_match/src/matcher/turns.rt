@@ -1,11 +1,10 @@
 //! Turns of the matcher, where no unit is read.
 
-ghost use Rattle.sre_match.specs.Captures.{captures};
 ghost use Rattle.sre_match.specs.Cursor.{Cursor};
-ghost use Rattle.sre_match.specs.Fits.{Placed, Stays};
+ghost use Rattle.sre_match.specs.Fits.{Stays, Ready};
 ghost use Rattle.std.specs.Prelude.{◌≡◌, ℕ, Bool, true, List, ◌<◌, ◌≤◌, ◌-◌, length};
-ghost use Rattle.sre_match.specs.Machine.{run, part_next, task_next, wrap, to_try, Sound, Gives, StaysSound};
-ghost use Rattle.sre_match.specs.Attempts.{stay, after, captured_from, cut};
+ghost use Rattle.sre_match.specs.Machine.{part_next, task_next, wrap, Sound, Gives, Linked, rest_of, tried_at, trying};
+ghost use Rattle.sre_match.specs.Attempts.{stay, captured_from, cut};
 ghost use Rattle.sre_match.specs.Paths.{paths, node_paths};
 ghost use Rattle.sre_code.specs.PlainTree.{look};
 
@@ -21,9 +20,10 @@ use sre_code::Tree;
 pub fn leave<'t>(current: &mut Current<'t>, trail: &mut Trail<'t>) -> Turn
     requires sound { Sound trail.old }
     requires inside { 0 < trail.old.levels }
-    ensures gives { (s : List ℕ) (n : ℕ) → Gives result current.new s trail.new n n (to_try s trail.old (stay current.old.cursor.place (captures trail.old.marks.items))) }
-    ensures sound { StaysSound result current.new trail.new }
-    ensures placed { (ok : Cursor → Bool) → Placed ok current.old trail.old → Stays result ok current.new trail.new }
+    ensures gives { (s : List ℕ) (n : ℕ) → Gives result current.new s trail.new n n
+        (tried_at stay current.old s trail.old) }
+    ensures ready { (ok : Cursor → Bool) → Ready ok current.old trail.old
+        → Stays result ok current.new trail.new }
 {
     while let Some(choice) = pop(trail) {
         match choice.kind {
@@ -36,7 +36,7 @@ pub fn leave<'t>(current: &mut Current<'t>, trail: &mut Trail<'t>) -> Turn
             ChoiceKind::Ahead => {
                 current.part = choice.part;
                 current.rest = choice.rest as usize;
-                current.cursor = choice.cursor;
+                current.cursor = choice.cursor.wide();
                 return Turn::Go;
             }
             ChoiceKind::Not => return Turn::Fail,
@@ -53,11 +53,12 @@ pub fn enter<'t>(
     current: &mut Current<'t>,
     trail: &mut Trail<'t>,
 ) -> Turn
-    requires sound { Sound trail.old }
-    requires deep { current.old.rest ≤ length trail.old.frames.items }
-    ensures gives { (s : List ℕ) (n : ℕ) → Gives result current.new s trail.new n n (to_try s trail.old (wrap kind (run trail.old.frames.items current.old.rest s) current.old.cursor.place (captures trail.old.marks.items) (part_next part.entry s start.place (captures trail.old.marks.items)))) }
-    ensures sound { StaysSound result current.new trail.new }
-    ensures placed { (ok : Cursor → Bool) → ok start ≡ true → Placed ok current.old trail.old → Stays result ok current.new trail.new }
+    requires linked { Linked current.old trail.old }
+    ensures gives { (s : List ℕ) (n : ℕ) → Gives result current.new s trail.new n n
+        (let k = rest_of current.old s trail.old in tried_at
+        (λ p m. wrap kind k p m (part_next part.entry s start.place m)) current.old s trail.old) }
+    ensures ready { (ok : Cursor → Bool) → ok start ≡ true → Ready ok current.old trail.old
+        → Stays result ok current.new trail.new }
 {
     let Ok(()) = keep(trail, kind, Part::Skip, current.rest, current.cursor) else {
         return Turn::Full;
@@ -72,11 +73,11 @@ pub fn enter<'t>(
 
 /// A tree is next.
 pub fn tree_turn<'t>(body: &'t Tree, current: &mut Current<'t>, trail: &Trail<'t>) -> Turn
-    requires sound { Sound trail.now }
-    requires deep { current.old.rest ≤ length trail.now.frames.items }
-    ensures gives { (s : List ℕ) (n : ℕ) → Gives result current.new s trail.now n n (to_try s trail.now (after (paths body.now s current.old.cursor.place (captures trail.now.marks.items)) (run trail.now.frames.items current.old.rest s))) }
-    ensures sound { StaysSound result current.new trail.now }
-    ensures placed { (ok : Cursor → Bool) → Placed ok current.old trail.now → Stays result ok current.new trail.now }
+    requires linked { Linked current.old trail.now }
+    ensures gives { (s : List ℕ) (n : ℕ) → Gives result current.new s trail.now n n
+        (trying (paths body.now s) current.old s trail.now) }
+    ensures ready { (ok : Cursor → Bool) → Ready ok current.old trail.now
+        → Stays result ok current.new trail.now }
 {
     current.part = Part::Nodes(body.nodes());
     Turn::Go
@@ -89,11 +90,11 @@ pub fn group_turn<'t>(
     current: &mut Current<'t>,
     trail: &mut Trail<'t>,
 ) -> Turn
-    requires sound { Sound trail.old }
-    requires deep { current.old.rest ≤ length trail.old.frames.items }
-    ensures gives { (s : List ℕ) (n : ℕ) → Gives result current.new s trail.new n n (to_try s trail.old (after (captured_from group current.old.cursor.place (paths body.now s current.old.cursor.place (captures trail.old.marks.items))) (run trail.old.frames.items current.old.rest s))) }
-    ensures sound { StaysSound result current.new trail.new }
-    ensures placed { (ok : Cursor → Bool) → Placed ok current.old trail.old → Stays result ok current.new trail.new }
+    requires linked { Linked current.old trail.old }
+    ensures gives { (s : List ℕ) (n : ℕ) → Gives result current.new s trail.new n n
+        (trying (λ p m. captured_from group p (paths body.now s p m)) current.old s trail.old) }
+    ensures ready { (ok : Cursor → Bool) → Ready ok current.old trail.old
+        → Stays result ok current.new trail.new }
 {
     match put(trail, Task::EndGroup(group, current.cursor), current.rest) {
         Err(_) => Turn::Full,
@@ -107,11 +108,11 @@ pub fn group_turn<'t>(
 
 /// An atomic group is next.
 pub fn atomic_turn<'t>(body: &'t Tree, current: &mut Current<'t>, trail: &mut Trail<'t>) -> Turn
-    requires sound { Sound trail.old }
-    requires deep { current.old.rest ≤ length trail.old.frames.items }
-    ensures gives { (s : List ℕ) (n : ℕ) → Gives result current.new s trail.new n n (to_try s trail.old (after (cut (paths body.now s current.old.cursor.place (captures trail.old.marks.items))) (run trail.old.frames.items current.old.rest s))) }
-    ensures sound { StaysSound result current.new trail.new }
-    ensures placed { (ok : Cursor → Bool) → Placed ok current.old trail.old → Stays result ok current.new trail.new }
+    requires linked { Linked current.old trail.old }
+    ensures gives { (s : List ℕ) (n : ℕ) → Gives result current.new s trail.new n n
+        (trying (λ p m. cut (paths body.now s p m)) current.old s trail.old) }
+    ensures ready { (ok : Cursor → Bool) → Ready ok current.old trail.old
+        → Stays result ok current.new trail.new }
 {
     let cursor = current.cursor;
     enter(
@@ -144,40 +145,27 @@ pub fn lookaround_turn<'t, S: StrDrive>(
     current: &mut Current<'t>,
     trail: &mut Trail<'t>,
 ) -> Turn
-    requires sound { Sound trail.old }
-    requires deep { current.old.rest ≤ length trail.old.frames.items }
-    requires placed { Placed (S.fits s.now) current.old trail.old }
-    ensures gives { (n : ℕ) → Gives result current.new s.now trail.new n n (to_try s.now trail.old (after (node_paths (look positive back body.now) s.now current.old.cursor.place (captures trail.old.marks.items)) (run trail.old.frames.items current.old.rest s.now))) }
-    ensures sound { StaysSound result current.new trail.new }
-    ensures placed { Stays result (S.fits s.now) current.new trail.new }
+    requires ready { Ready (S.fits s.now) current.old trail.old }
+    ensures gives { (n : ℕ) → Gives result current.new s.now trail.new n n
+        (trying (node_paths (look positive back body.now) s.now) current.old s.now trail.old) }
+    ensures ready { Stays result (S.fits s.now) current.new trail.new }
 {
     let back = back as usize;
+    let body = Part::Nodes(body.nodes());
     let place = current.cursor.place;
     if positive {
         if place < back {
             return Turn::Fail;
         }
         let start = moved_back(s, &current.cursor, back);
-        enter(
-            ChoiceKind::Ahead,
-            Part::Nodes(body.nodes()),
-            start,
-            current,
-            trail,
-        )
+        enter(ChoiceKind::Ahead, body, start, current, trail)
     } else {
         if place < back {
             current.part = Part::Skip;
             return Turn::Go;
         }
         let start = moved_back(s, &current.cursor, back);
-        enter(
-            ChoiceKind::Not,
-            Part::Nodes(body.nodes()),
-            start,
-            current,
-            trail,
-        )
+        enter(ChoiceKind::Not, body, start, current, trail)
     }
 }
 
@@ -188,11 +176,11 @@ pub fn end_group_turn<'t>(
     current: &mut Current<'t>,
     trail: &mut Trail<'t>,
 ) -> Turn
-    requires sound { Sound trail.old }
-    requires deep { current.old.rest ≤ length trail.old.frames.items }
-    ensures gives { (s : List ℕ) (n : ℕ) → Gives result current.new s trail.new n n (to_try s trail.old (after (task_next (Task.EndGroup group start) s current.old.cursor.place (captures trail.old.marks.items)) (run trail.old.frames.items current.old.rest s))) }
-    ensures sound { StaysSound result current.new trail.new }
-    ensures placed { (ok : Cursor → Bool) → ok start ≡ true → Placed ok current.old trail.old → Stays result ok current.new trail.new }
+    requires linked { Linked current.old trail.old }
+    ensures gives { (s : List ℕ) (n : ℕ) → Gives result current.new s trail.new n n
+        (trying (task_next (Task.EndGroup group start) s) current.old s trail.old) }
+    ensures ready { (ok : Cursor → Bool) → ok start ≡ true → Ready ok current.old trail.old
+        → Stays result ok current.new trail.new }
 {
     let captured = Capture {
         group: group as usize,
@@ -225,12 +213,10 @@ pub fn back_turn<'t, S: StrDrive>(
     current: &mut Current<'t>,
     trail: &mut Trail<'t>,
 ) -> Turn
-    requires sound { Sound trail.old }
-    requires deep { current.old.rest ≤ length trail.old.frames.items }
-    requires placed { Placed (S.fits s.now) current.old trail.old }
-    ensures gives { (n : ℕ) → Gives result current.new s.now trail.new n n (to_try s.now trail.old (after (part_next (Part.Back count) s.now current.old.cursor.place (captures trail.old.marks.items)) (run trail.old.frames.items current.old.rest s.now))) }
-    ensures sound { StaysSound result current.new trail.new }
-    ensures placed { Stays result (S.fits s.now) current.new trail.new }
+    requires ready { Ready (S.fits s.now) current.old trail.old }
+    ensures gives { (n : ℕ) → Gives result current.new s.now trail.new n n
+        (trying (part_next (Part.Back count) s.now) current.old s.now trail.old) }
+    ensures ready { Stays result (S.fits s.now) current.new trail.new }
 {
     if count > 0 {
         let before = one_before(s, &current.cursor);

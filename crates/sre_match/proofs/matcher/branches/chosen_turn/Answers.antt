@@ -1,5 +1,5 @@
 use Rattle.sre_match.specs.Captures.{captures}
-use Rattle.std.proofs.Common.{sym, ap, ◌∙◌}
+use Rattle.std.proofs.Common.{sym, ap, ◌∙◌, length, arith}
 use Rattle.sre_match.specs.Machine.{run, to_try}
 use Rattle.sre_match.specs.Attempts.{after, Next}
 use Rattle.sre_match.specs.Paths.{paths}
@@ -23,5 +23,5 @@ returns-clause-gives c s n =
     ∙ sym (c.in-Ok.ensures.tried s xs)
     ∙ ap (to_try s new) (sym (λ j. after (paths (c.nodes.ensures j) s p (c.in-Ok.ensures.marks j)) (run (c.in-Ok.ensures.frames j) i s))))
 
-pub returns-clause-placed : goal.returns-clause-placed
-returns-clause-placed c ok p = record { here = p.here; kept = c.in-Ok.ensures.fit ok p }
+pub returns-clause-ready : goal.returns-clause-ready
+returns-clause-ready c ok p = record { sound = c.in-Ok.ensures.sound; deep = omega (arith, ap length c.in-Ok.ensures.frames, p.deep); here = p.here; kept = c.in-Ok.ensures.fit ok p.here p.kept }

@@ -17,4 +17,4 @@ returns-clause-tried c =
     c.keep.ensures.tried
 
 pub returns-clause-fit : goal.returns-clause-fit
-returns-clause-fit c = on_ok c.keep.result (λ fit ok p. fit ok p.here p.kept) c.keep.ensures.fit
+returns-clause-fit c = c.keep.ensures.fit

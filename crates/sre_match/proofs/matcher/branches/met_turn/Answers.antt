@@ -46,8 +46,8 @@ returns-in-len1-up-clause-gives g c n h o =
     ∙ ap (to_try s new) (sym (λ j. after (paths following s (p + 1) (c.in-Ok.ensures.marks j)) (run (c.in-Ok.ensures.frames j) i s)))
     ∙ ap (λ q. to_try s new (after (paths following s q (captures new.marks.items)) (run new.frames.items i s))) (sym c.skip.ensures.place)))
 
-pub returns-in-len1-up-clause-placed : goal.returns-in-len1-up-clause-placed
-returns-in-len1-up-clause-placed g c = record { here = c.skip.ensures.fits; kept = c.in-Ok.ensures.fit _ c.requires.placed }
+pub returns-in-len1-up-clause-ready : goal.returns-in-len1-up-clause-ready
+returns-in-len1-up-clause-ready g c = record { sound = c.in-Ok.ensures.sound; deep = omega (arith, ap length c.in-Ok.ensures.frames, c.requires.ready.deep); here = c.skip.ensures.fits; kept = c.in-Ok.ensures.fit _ c.requires.ready.here c.requires.ready.kept }
 
-pub returns-in_default-nodes-clause-placed : goal.returns-in_default-nodes-clause-placed
-returns-in_default-nodes-clause-placed g c = record { here = c.requires.placed.here; kept = c.in-Ok.ensures.fit _ c.requires.placed }
+pub returns-in_default-nodes-clause-ready : goal.returns-in_default-nodes-clause-ready
+returns-in_default-nodes-clause-ready g c = record { sound = c.in-Ok.ensures.sound; deep = omega (arith, ap length c.in-Ok.ensures.frames, c.requires.ready.deep); here = c.requires.ready.here; kept = c.in-Ok.ensures.fit _ c.requires.ready.here c.requires.ready.kept }

@@ -1,6 +1,9 @@
 use Rattle.sre_match.specs.Captures.{captures}
 use Rattle.std.proofs.Common.{arith, ap, refl, length, length-append, [], ◌∷◌}
 use Rattle.sre_match.proofs.ChoiceLemmas.{pile_drop, rising_at, rising_drop, stacked_at, stacked_drop, levels_back}
+use Rattle.std.specs.Prelude.{Some}
+use Rattle.std.proofs.lemmas.List.Elements.{All-pop}
+use Rattle.sre_match.specs.Fits.{choice_fits}
 use Rattle.sre_match.proofs.matcher.choices.pop.Goals as goal
 
 pub overflow_sub-trail : goal.overflow_sub-trail
@@ -40,3 +43,12 @@ returns-clause-sound c =
       inside = omega (arith, c.level.ensures, c.requires.inside, levels_back ds cs d e);
       down = c.requires.down;
     }
+
+pub returns-clause-fit : goal.returns-clause-fit
+returns-clause-fit c ok f =
+    let both = All-pop (choice_fits ok) c.args.trail.now.choices.items c.pop.new.self.items (Some c.in_ok-choice.choice) c.in_ok-choice.ensures.items f.choices in
+    record { choices = both.0; frames = f.frames; marks = f.marks }
+
+pub returns-clause-here : goal.returns-clause-here
+returns-clause-here c ok f =
+    (All-pop (choice_fits ok) c.args.trail.now.choices.items c.pop.new.self.items (Some c.in_ok-choice.choice) c.in_ok-choice.ensures.items f.choices).1

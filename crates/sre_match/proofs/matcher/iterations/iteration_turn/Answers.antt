@@ -26,5 +26,5 @@ returns-in-Ok-clause-gives c s n =
     ∙ ap (to_try s new) (sym ((λ j. after (paths (c.nodes.ensures j) s p (c.in-Ok.ensures.marks j)) (c.in-Ok.ensures.put s j))
     ∙ sym (after_after (body p m) more next (run_full old.frames.items c.args.current.now.rest s)))))
 
-pub returns-in-Ok-clause-placed : goal.returns-in-Ok-clause-placed
-returns-in-Ok-clause-placed c ok p = record { here = p.here; kept = c.in-Ok.ensures.fit ok refl p.kept }
+pub returns-in-Ok-clause-ready : goal.returns-in-Ok-clause-ready
+returns-in-Ok-clause-ready c ok p = record { sound = c.in-Ok.ensures.sound; deep = c.in-Ok.ensures.below; here = p.here; kept = c.in-Ok.ensures.fit ok refl p.kept }

@@ -33,5 +33,5 @@ returns-in-Ok-put-clause-gives c s n =
     ∙ ap (λ (gs : Frames). after (body p m) (onward gs (task_next (Again true c.args.body c.args.room p) s) i s)) c.in-Ok.ensures.frames
     ∙ sym (after_after (body p m) more next (run_full fs i s)))))
 
-pub returns-in-Ok-put-clause-placed : goal.returns-in-Ok-put-clause-placed
-returns-in-Ok-put-clause-placed c ok p = record { here = p.here; kept = c.in-Ok-put.ensures.fit ok refl (c.in-Ok.ensures.fit ok p.here p.kept) }
+pub returns-in-Ok-put-clause-ready : goal.returns-in-Ok-put-clause-ready
+returns-in-Ok-put-clause-ready c ok p = record { sound = c.in-Ok-put.ensures.sound; deep = c.in-Ok-put.ensures.below; here = p.here; kept = c.in-Ok-put.ensures.fit ok refl (c.in-Ok.ensures.fit ok p.here p.kept) }

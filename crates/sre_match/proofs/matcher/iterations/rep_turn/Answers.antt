@@ -31,5 +31,5 @@ returns-in-Ok-clause-gives c s n =
     ∙ once_more body next more again next p m (run_full old.frames.items i s) (λ e l. refl)
     ∙ sym (λ j. after (paths (c.nodes.ensures j) s p (c.in-Ok.ensures.marks j)) (c.in-Ok.ensures.put s j))))
 
-pub returns-in-Ok-clause-placed : goal.returns-in-Ok-clause-placed
-returns-in-Ok-clause-placed c ok p = record { here = p.here; kept = c.in-Ok.ensures.fit ok refl p.kept }
+pub returns-in-Ok-clause-ready : goal.returns-in-Ok-clause-ready
+returns-in-Ok-clause-ready c ok p = record { sound = c.in-Ok.ensures.sound; deep = c.in-Ok.ensures.below; here = p.here; kept = c.in-Ok.ensures.fit ok refl p.kept }

@@ -17,7 +17,7 @@ returns-then-is_allowed-clause-leads g c =
     let ok : ℕ → Bool = is_allowed s c.args.start c.args.advance c.args.whole in
     let e : ok c.take_turn.new.current.cursor.place ≡ true = sym (c.is_allowed.ensures s (sym c.count.ensures.count)) ∙ c.if-is_allowed.true in
     leads_found c.take_turn.new.current ok s c.take_turn.new.trail c.args.steps.now c.take_turn.new.steps (ahead_of c.args.current.now s c.args.trail.now)
-    (rw c.in-Done.is at c.take_turn.ensures.sound) (rw c.in-Done.is at c.take_turn.ensures.gives) e
+    (rw c.in-Done.is at c.take_turn.ensures.ready).sound (rw c.in-Done.is at c.take_turn.ensures.gives) e
 
 pub returns-else-is_allowed-clause-leads : goal.returns-else-is_allowed-clause-leads
 returns-else-is_allowed-clause-leads g c =
@@ -25,5 +25,5 @@ returns-else-is_allowed-clause-leads g c =
     let ok : ℕ → Bool = is_allowed s c.args.start c.args.advance c.args.whole in
     let e : ok c.take_turn.new.current.cursor.place ≡ false = sym (c.is_allowed.ensures s (sym c.count.ensures.count)) ∙ c.if-is_allowed.false in
     leads_skip c.retry-else-is_allowed.result c.take_turn.new.current c.retry-else-is_allowed.new.current ok s c.take_turn.new.trail c.retry-else-is_allowed.new.trail c.args.steps.now c.take_turn.new.steps (ahead_of c.args.current.now s c.args.trail.now)
-    (rw c.in-Done.is at c.take_turn.ensures.sound) (rw c.in-Done.is at c.take_turn.ensures.gives) e
+    (rw c.in-Done.is at c.take_turn.ensures.ready).sound (rw c.in-Done.is at c.take_turn.ensures.gives) e
     (c.retry-else-is_allowed.ensures.leads ok s c.take_turn.new.steps)

@@ -23,8 +23,13 @@ returns-then-rest-eq0-clause-gives g c =
     let n = c.args.steps.now in
     gives_is c.leave.result _ s c.leave.new.trail n n _ _ (ap (λ (f : Next). to_try s t (f c.args.current.now.cursor.place m)) (run_zero t.frames.items c.args.current.now.rest s c.if-rest-eq0.true)) (c.leave.ensures.gives s n)
 
-pub task_turn-requires-clause-placed : goal.task_turn-requires-clause-placed
-task_turn-requires-clause-placed g c = record { here = c.requires.placed.here; kept = c.drop_frame.ensures.fit _ c.requires.placed.kept }
+pub task_turn-requires-clause-ready : goal.task_turn-requires-clause-ready
+task_turn-requires-clause-ready g c = record {
+  sound = c.drop_frame.ensures.sound;
+  deep = c.drop_frame.ensures.deep _ c.frame_in-frame.ensures.below;
+  here = c.requires.ready.here;
+  kept = c.drop_frame.ensures.fit _ c.requires.ready.kept;
+}
 
 pub task_turn-requires-clause-task : goal.task_turn-requires-clause-task
-task_turn-requires-clause-task g c = c.frame_in-frame.ensures.fit _ (subst (All (frame_fits (g.S.StrDrive.fits c.args.s.now))) (sym c.deref.ensures.value) c.requires.placed.kept.frames)
+task_turn-requires-clause-task g c = c.frame_in-frame.ensures.fit _ (subst (All (frame_fits (g.S.StrDrive.fits c.args.s.now))) (sym c.deref.ensures.value) c.requires.ready.kept.frames)

@@ -44,5 +44,5 @@ returns-in-Ok-clause-gives g c =
     ∙ ap (λ l. to_try s mid (after (node_paths n s p l) following)) (sym c.in-Ok.ensures.marks))
     c.node_turn.ensures.gives
 
-pub node_turn-requires-clause-placed : goal.node_turn-requires-clause-placed
-node_turn-requires-clause-placed g c = record { here = c.requires.placed.here; kept = c.in-Ok.ensures.fit _ refl c.requires.placed.kept }
+pub node_turn-requires-clause-ready : goal.node_turn-requires-clause-ready
+node_turn-requires-clause-ready g c = record { sound = c.in-Ok.ensures.sound; deep = c.in-Ok.ensures.below; here = c.requires.ready.here; kept = c.in-Ok.ensures.fit _ refl c.requires.ready.kept }

@@ -22,10 +22,10 @@ returns-in-None-clause-gives g c =
 
 pub span_again_turn-requires-clause-stop : goal.span_again_turn-requires-clause-stop
 span_again_turn-requires-clause-stop g c =
-    g.met.S.StrDrive.within c.args.s.now c.in-Some.capture.stop (c.in-Some.ensures.fits (g.S.StrDrive.fits c.args.s.now) c.requires.placed.kept.marks).1
+    g.met.S.StrDrive.within c.args.s.now c.in-Some.capture.stop (c.in-Some.ensures.fits (g.S.StrDrive.fits c.args.s.now) c.requires.ready.kept.marks).1
 
 pub span_again_turn-requires-clause-from_fits : goal.span_again_turn-requires-clause-from_fits
-span_again_turn-requires-clause-from_fits g c = (c.in-Some.ensures.fits (g.S.StrDrive.fits c.args.s.now) c.requires.placed.kept.marks).0
+span_again_turn-requires-clause-from_fits g c = (c.in-Some.ensures.fits (g.S.StrDrive.fits c.args.s.now) c.requires.ready.kept.marks).0
 
 pub returns-in-Some-clause-gives : goal.returns-in-Some-clause-gives
 returns-in-Some-clause-gives g c =

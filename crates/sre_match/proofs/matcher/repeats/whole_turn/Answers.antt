@@ -1,5 +1,5 @@
 use Rattle.sre_match.specs.Captures.{captures}
-use Rattle.std.proofs.Common.{ap, refl, sym, ◌∙◌, true}
+use Rattle.std.proofs.Common.{ap, refl, sym, ◌∙◌, true, arith}
 use Rattle.sre_match.specs.Machine.{to_try, run}
 use Rattle.sre_match.specs.Attempts.{Next, after, cut}
 use Rattle.sre_match.specs.Paths.{paths}
@@ -25,5 +25,5 @@ returns-clause-gives c s n =
     ∙ ap (λ l. after (repeat_paths (paths c.args.body.now s) true c.args.least c.args.room p l) (run mid.frames.items 0 s)) (sym c.in-Ok.ensures.marks)))
     (c.rep_turn.ensures.gives s n)
 
-pub returns-clause-placed : goal.returns-clause-placed
-returns-clause-placed c ok p = c.rep_turn.ensures.placed ok (record { here = p.here; kept = c.in-Ok.ensures.fit ok p.here p.kept })
+pub returns-clause-ready : goal.returns-clause-ready
+returns-clause-ready c ok p = c.rep_turn.ensures.ready ok (record { sound = c.in-Ok.ensures.sound; deep = omega arith; here = p.here; kept = c.in-Ok.ensures.fit ok p.here p.kept })

@@ -1,5 +1,5 @@
 use Rattle.sre_match.specs.Captures.{captures}
-use Rattle.std.proofs.Common.{sym, ◌∙◌, ap}
+use Rattle.std.proofs.Common.{sym, ◌∙◌, ap, arith}
 use Rattle.sre_match.specs.Machine.{wrap, to_try, part_next}
 use Rattle.sre_match.specs.Attempts.{Next}
 use Rattle.sre_match.proofs.FrameLemmas.{skip_is, end_is}
@@ -17,5 +17,5 @@ returns-clause-gives c s n =
     ∙ sym (c.in-Ok.ensures.tried s xs)
     ∙ ap (to_try s new) (sym (end_is new.frames.items (part_next c.args.part s) s c.args.start.place (captures new.marks.items) ∙ ap (part_next c.args.part s c.args.start.place) c.in-Ok.ensures.marks)))
 
-pub returns-clause-placed : goal.returns-clause-placed
-returns-clause-placed c ok h p = record { here = h; kept = c.in-Ok.ensures.fit ok p.here p.kept }
+pub returns-clause-ready : goal.returns-clause-ready
+returns-clause-ready c ok h p = record { sound = c.in-Ok.ensures.sound; deep = omega arith; here = h; kept = c.in-Ok.ensures.fit ok p.here p.kept }

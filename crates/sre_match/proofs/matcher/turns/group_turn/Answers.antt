@@ -22,5 +22,5 @@ returns-in-Ok-clause-gives c s n =
     ∙ ap (to_try s new) (close_later c.args.group p (paths b s p m) f (onward old.frames.items (task_next (EndGroup c.args.group c.args.current.now.cursor) s) c.args.current.now.rest s) (λ e l. refl)
     ∙ sym (λ i. after (paths (c.nodes.ensures i) s p (c.in-Ok.ensures.marks i)) (c.in-Ok.ensures.put s i))))
 
-pub returns-in-Ok-clause-placed : goal.returns-in-Ok-clause-placed
-returns-in-Ok-clause-placed c ok p = record { here = p.here; kept = c.in-Ok.ensures.fit ok p.here p.kept }
+pub returns-in-Ok-clause-ready : goal.returns-in-Ok-clause-ready
+returns-in-Ok-clause-ready c ok p = record { sound = c.in-Ok.ensures.sound; deep = c.in-Ok.ensures.below; here = p.here; kept = c.in-Ok.ensures.fit ok p.here p.kept }

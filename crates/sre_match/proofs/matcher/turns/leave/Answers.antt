@@ -1,7 +1,8 @@
 use Rattle.sre_match.specs.Captures.{captures}
-use Rattle.std.proofs.Common.{ap, sym, ◌∙◌, arith, take, [], ◌∷◌, ◌++◌}
+use Rattle.std.proofs.Common.{ap, sym, ◌∙◌, arith, take, [], ◌∷◌, ◌++◌, length}
 use Rattle.sre_match.specs.declared.matcher.trail.ChoiceKind.{ChoiceKind}
 use Rattle.sre_match.specs.Attempts.{passed}
+use Rattle.sre_match.specs.Cursor.{Cursor}
 use Rattle.sre_match.specs.Machine.{onward, part_next, wrap, to_try, level_of}
 use Rattle.sre_match.proofs.AfterLemmas.{stay_after}
 use Rattle.sre_match.proofs.ChoiceLemmas.{pile_fail}
@@ -35,7 +36,8 @@ returns-in-Ahead-clause-gives c s n =
     (old.1 ∙ c.in-Some.ensures.popped.tried s (passed 0 p m ∷ old.0)
     ∙ ap (λ (k : ChoiceKind). to_try s t (wrap k f d.cursor.place (take d.marks m) (passed 0 p m ∷ old.0))) c.in-Ahead.is
     ∙ ap (to_try s t) (stay_after d.cursor.place m f)
-    ∙ ap (λ l. to_try s t (f d.cursor.place l)) (sym c.in-Some.ensures.popped.marks))
+    ∙ ap (λ l. to_try s t (f d.cursor.place l)) (sym c.in-Some.ensures.popped.marks)
+    ∙ ap (λ (q : Cursor). to_try s t (f q.place (captures t.marks.items))) (sym c.wide-current.ensures))
 
 pub returns-in-Not-clause-gives : goal.returns-in-Not-clause-gives
 returns-in-Not-clause-gives c s n =
@@ -71,14 +73,14 @@ loop-choice-preserved c = record {
   inside = omega (arith, c.in-Some.ensures.popped.inside, ap level_of c.in-Try.is, c.loop-choice.invariant.inside);
 }
 
-pub returns-in-Atomic-clause-placed : goal.returns-in-Atomic-clause-placed
-returns-in-Atomic-clause-placed c ok p = record { here = ap ok c.loop-choice.invariant.cursor ∙ p.here; kept = c.pop.ensures.fit ok (c.loop-choice.invariant.fit ok p.kept) }
+pub returns-in-Atomic-clause-ready : goal.returns-in-Atomic-clause-ready
+returns-in-Atomic-clause-ready c ok p = record { sound = c.in-Some.ensures.sound; deep = omega (arith, c.in-Some.ensures.popped.reach, c.in-Some.ensures.popped.deep, ap length c.in-Some.ensures.popped.frames); here = ap ok c.loop-choice.invariant.cursor ∙ p.here; kept = c.pop.ensures.fit ok (c.loop-choice.invariant.fit ok p.kept) }
 
-pub returns-in-Ahead-clause-placed : goal.returns-in-Ahead-clause-placed
-returns-in-Ahead-clause-placed c ok p = record { here = c.in-Some.ensures.here ok (c.loop-choice.invariant.fit ok p.kept); kept = c.pop.ensures.fit ok (c.loop-choice.invariant.fit ok p.kept) }
+pub returns-in-Ahead-clause-ready : goal.returns-in-Ahead-clause-ready
+returns-in-Ahead-clause-ready c ok p = record { sound = c.in-Some.ensures.sound; deep = omega (arith, c.in-Some.ensures.popped.reach, c.in-Some.ensures.popped.deep, ap length c.in-Some.ensures.popped.frames); here = ap ok c.wide-current.ensures ∙ c.in-Some.ensures.here ok (c.loop-choice.invariant.fit ok p.kept); kept = c.pop.ensures.fit ok (c.loop-choice.invariant.fit ok p.kept) }
 
-pub returns-in-Not-clause-placed : goal.returns-in-Not-clause-placed
-returns-in-Not-clause-placed c ok p = c.pop.ensures.fit ok (c.loop-choice.invariant.fit ok p.kept)
+pub returns-in-Not-clause-ready : goal.returns-in-Not-clause-ready
+returns-in-Not-clause-ready c ok p = (c.in-Some.ensures.sound, c.pop.ensures.fit ok (c.loop-choice.invariant.fit ok p.kept))
 
-pub returns-clause-placed : goal.returns-clause-placed
-returns-clause-placed c ok p = record { here = ap ok c.loop-choice.invariant.cursor ∙ p.here; kept = c.pop.ensures.fit ok (c.loop-choice.invariant.fit ok p.kept) }
+pub returns-clause-ready : goal.returns-clause-ready
+returns-clause-ready c ok p = record { sound = c.pop.ensures.sound; here = ap ok c.loop-choice.invariant.cursor ∙ p.here; kept = c.pop.ensures.fit ok (c.loop-choice.invariant.fit ok p.kept) }
