@@ -1,20 +1,12 @@
 //! Makes one call on a text or on integers over and over, and prints how often and a check sum.
 #![tactic(auto)]
 
+use std::io;
 use std::process::ExitCode;
-use std::{env, io};
+use std_edge::arguments;
 use timed_calls::Request;
 
 const USAGE: &str = "bench_driver NAME SIZE TIMES: no such call, or no such number";
-
-// The words of the command line, without the program's name.
-fn words_of(rt: &HostRuntime) -> io::Result<Vec<String>> {
-    let mut words = Vec::new(rt.alloc());
-    for word in env::args(rt)?.skip(1) {
-        words.push(word)?;
-    }
-    Ok(words)
-}
 
 // Says that the words ask for nothing.
 fn refused(rt: &HostRuntime) -> io::Result<ExitCode> {
@@ -41,7 +33,7 @@ fn run(rt: &HostRuntime, name: &str, size: &str, times: &str) -> io::Result<Exit
 }
 
 fn main(rt: HostRuntime) -> io::Result<ExitCode> {
-    let words = match words_of(&rt) {
+    let words = match arguments(&rt) {
         Ok(words) => words,
         Err(error) if error.kind() == io::ErrorKind::OutOfMemory => return Err(error),
         Err(_) => return refused(&rt),

@@ -1,7 +1,7 @@
 //! The program over streams in memory, from the request's bytes to the answer's.
 
 mod kinds;
-mod malformed;
+mod no_request;
 mod requests;
 mod streams;
 

@@ -15,14 +15,14 @@ use Rattle.hex.specs.Hex.{encode_lower, decode_of}
 use Rattle.hex.proofs.HexLemmas.{decode_of-encode_lower}
 use Rattle.hex.specs.declared.error.FromHexError.{FromHexError}
 use Rattle.py_base.specs.Reading.{◌and_then◌, is_next}
-use Rattle.sre_commands.specs.Error.{Read, malformed}
+use Rattle.sre_commands.specs.Error.{Read, no_request}
 use Rattle.sre_commands.specs.declared.error.ParseError.{ParseError}
-use Rattle.sre_commands.specs.declared.error.ParseError.TheVariants.{Malformed}
+use Rattle.sre_commands.specs.declared.error.ParseError.TheVariants.{NoRequest}
 use Rattle.sre_commands.specs.Tokens.Reader.{read_past, read_token, read_by_token, with_rest, is_end}
 use Rattle.sre_commands.specs.Tokens.Number.{numbers, group_token, number_in, read_number, read_word, read_words, read_group}
 use Rattle.sre_commands.specs.Tokens.Text.{token, spelled, text_in, read_text}
 use Rattle.sre_commands.proofs.LacksLemmas.{Lacks}
-use Rattle.sre_match.specs.Filling.{Replacement}
+use Rattle.sre_commands.specs.Commands.Sub.Filling.{Replacement}
 use Rattle.sre_commands.specs.Commands.Sub.Template.{ArePairs, IsTemplate, pair_tokens, template_tokens, read_pair, read_pairs, read_template}
 use Rattle.sre_commands.specs.Commands.Sub.Request.{Request, IsRequest, PlainCode, line, text_of}
 use Rattle.sre_commands.specs.Commands.Sub.Reader.{read_all_words, read_line, read_code, read_lines, whole, read_request}
@@ -60,7 +60,7 @@ some_token (c ∷ word) x h k e = skips {b = is_end c} _ (goes_on c (All-head (�
 pub some_by_token : {A : Type 0} (value : List ℕ → Result A ParseError) (word x : List ℕ) (a : A) → Lacks 32 word → Lacks 10 word → EndsHere x → value word ≡ Ok a → Gives (read_by_token value (word ++ x)) a x
 some_by_token {A} value word x a h k e is = reads (λ token rest. with_rest (value token) rest) (some_token word x h k e) (it (ap (λ r. with_rest r x) is))
 
-passed : {A : Type 0} (b c : Bool) (v a : A) → b ≡ true → c ≡ true → v ≡ a → (let r : Result A ParseError = if b && c then Ok v else malformed in r ≡ Ok a)
+passed : {A : Type 0} (b c : Bool) (v a : A) → b ≡ true → c ≡ true → v ≡ a → (let r : Result A ParseError = if b && c then Ok v else no_request in r ≡ Ok a)
 passed true true v a h k e = ap Ok e
 passed true false v a h k e = absurd (cc k)
 passed false c v a h k e = absurd (cc h)
@@ -105,7 +105,7 @@ some_words (suc n) (w ∷ ws) x h lt =
 
 -- what is read after a first part
 abbrev in_group : ℕ → ℕ → List ℕ → Read ℕ
-in_group groups g rest = if nat_le g groups then Ok (g, rest) else malformed
+in_group groups g rest = if nat_le g groups then Ok (g, rest) else no_request
 
 abbrev in_pair : ℕ → List ℕ → Read (ℕ × List ℕ)
 in_pair g rest = read_text rest and_then λ literal rest. Ok ((g, literal), rest)
@@ -118,7 +118,7 @@ in_line read rest = read rest and_then λ value rest. read_past (codes "\n") res
 
 pub some_group : (groups g : ℕ) (x : List ℕ) → groups < 2 ^ 64 → g ≤ groups → EndsHere x → Gives (read_group groups (group_token g ++ x)) g x
 some_group groups g x small le e = reads (λ _ rest. read_number rest and_then in_group groups) (past (codes "i") (decimal g ++ x))
-    (reads (in_group groups) (some_number g x (omega (arith, small, le)) e) (passes {b = nat_le g groups} malformed (le-leb g groups le) done))
+    (reads (in_group groups) (some_number g x (omega (arith, small, le)) e) (passes {b = nat_le g groups} no_request (le-leb g groups le) done))
 
 pub some_pair : (groups : ℕ) (p : ℕ × List ℕ) (x : List ℕ) → groups < 2 ^ 64 → Is groups p → EndsHere x → Gives (read_pair groups (tokens p ++ x)) p x
 some_pair groups p x small h e = as_spelled (read_pair groups) (append_assoc (group_token p.0) (32 ∷ token p.1) x)

@@ -6,17 +6,14 @@ use Rattle.std.specs.Str.Parse.{AllDigits, ParsesUnsigned, digits_value}
 use Rattle.std.proofs.lemmas.Fmt.{decimal_is_IsNumeral, decimal_digit, decimal_nonempty, first_decimal, parse-decimal, decimal-digits_value, decimal_injective}
 use Rattle.std.proofs.lemmas.List.Elements.{All-from_get_or}
 use Rattle.std.proofs.lemmas.Str.Parse.{IsNumeralModel, digit_at, numerals_by_value, parse_plain, tells_digits}
+use Rattle.sre_commands.specs.Tokens.Number.{BeginsAsDecimal}
 use Rattle.sre_commands.proofs.LacksLemmas.{Lacks}
 
--- no byte below the digits stands in a decimal
+-- no byte below the digits is in a decimal
 pub lacks_decimal : (byte n : ℕ) → byte < 48 → n < 2 ^ 64 → Lacks byte (decimal n)
 lacks_decimal byte n below small =
     let digits = decimal_is_IsNumeral n small in
     All-from_get_or (λ b. b ≢ byte) (decimal n) 0 (λ i lt. let h = digit_at (decimal n) i digits.0.1 lt in omega arith)
-
--- it is 0, or begins with another digit
-abbrev pub BeginsAsDecimal : List ℕ → Type 0
-BeginsAsDecimal bytes = (bytes ≡ 48 ∷ []) ⊎ ((48 < slice_index bytes 0) × (slice_index bytes 0 ≤ 57))
 
 pub decimal_begins : (n : ℕ) → n < 2 ^ 64 → BeginsAsDecimal (decimal n)
 decimal_begins zero small = inl (decimal_digit 0 (omega arith))

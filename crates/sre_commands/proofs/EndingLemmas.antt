@@ -2,11 +2,11 @@
 use Rattle.std.proofs.Common.{◌≡◌, ◌≢◌, ◌⊎◌, inl, inr, ℕ, ◌≤◌, ◌<◌, Bool, false, List, length, Option, Some, None, refl, sym, ap, subst, ◌∙◌, arith}
 use Rattle.std.specs.Io.KnownBytes.{Consumes, IsAtEnd}
 use Rattle.sre_code.specs.PlainTree.{PlainTree}
-use Rattle.sre_code.specs.Spelling.{Spells}
+use Rattle.sre_code.specs.Spelling.{Spells, SpellsNothing}
 use Rattle.sre_commands.specs.declared.ending.Ending.{Ending}
-use Rattle.sre_commands.specs.declared.ending.Ending.TheVariants.{Answered, Faulted, NoCommand, NoRequest, SourceFailed, SinkFailed, NoMemory, TooLong}
+use Rattle.sre_commands.specs.declared.ending.Ending.TheVariants.{Answered, InvalidCode, NoCommand, NoRequest, SourceFailed, SinkFailed, NoMemory, TooLong}
 use Rattle.sre_commands.specs.Commands.Sub.Request.{Request, IsRequest, text_of}
-use Rattle.sre_commands.specs.Program.{HasInvalidCode, IsNoRequest, IsMalformed, Ends, Asks}
+use Rattle.sre_commands.specs.Program.{IsNoRequest, Ends, Asks}
 use Rattle.sre_commands.specs.Ending.{status_of, IsEither, writes}
 use Rattle.sre_commands.specs.Streams.{Reading, Writing, ReadFailed, WriteFailed, ReadWhole, TookAtMost, TookMoreThan}
 use Rattle.sre_commands.proofs.StreamLemmas.{Consumes-whole, Consumes-within}
@@ -52,13 +52,13 @@ spells_along : (r q : Request) (t : PlainTree) → q ≡ r → Spells q.words q.
 spells_along r q t e s = subst (λ (x : Request). Spells x.words x.groups t) e s
 
 -- the bytes of a request are no bytes of none
-is_request : (reading : Reading) (r : Request) → IsRequest r → reading.left_old ≡ Some (text_of r) → IsMalformed reading → ⊥
+is_request : (reading : Reading) (r : Request) → IsRequest r → reading.left_old ≡ Some (text_of r) → IsNoRequest reading → ⊥
 is_request reading r h told m = m.none r h (sym (whole_is reading (text_of r) m.bytes told m.read))
 
 pub good_request : (e : Ending) (arguments : List (List ℕ)) (most : ℕ) (reading : Reading) (writing : Writing) (r : Request) (t : PlainTree) → Ends e arguments most reading writing → IsRequest r → Spells r.words r.groups t → Asks arguments reading.left_old (text_of r) → length (text_of r) ≤ most
     → (ReadFailed reading → ⊥) → (WriteFailed writing → ⊥) → IsEither (status_of e) Answered NoMemory
 good_request Answered arguments most rd wr r t ends is spells asks within read write = inl refl
-good_request Faulted arguments most rd wr r t ends is spells asks within read write =
+good_request InvalidCode arguments most rd wr r t ends is spells asks within read write =
     let f = ends.2 in
     absurd (f.none t (spells_along f.request r t (sym (request_is rd r f.request is f.is_request asks.told f.read)) spells))
 good_request NoCommand arguments most rd wr r t ends is spells asks within read write = absurd (ends.0 asks.command)
@@ -68,37 +68,37 @@ good_request SinkFailed arguments most rd wr r t ends is spells asks within read
 good_request NoMemory arguments most rd wr r t ends is spells asks within read write = inr refl
 good_request TooLong arguments most rd wr r t ends is spells asks within read write = absurd (not_more most rd (text_of r) asks.told within ends.1)
 
-pub invalid_code : (e : Ending) (arguments : List (List ℕ)) (most : ℕ) (reading : Reading) (writing : Writing) (r : Request) → Ends e arguments most reading writing → IsRequest r → HasInvalidCode r → Asks arguments reading.left_old (text_of r) → length (text_of r) ≤ most
-    → (ReadFailed reading → ⊥) → (WriteFailed writing → ⊥) → IsEither (status_of e) Faulted NoMemory
-invalid_code Answered arguments most rd wr r ends is none asks within read write =
+pub spells_none : (e : Ending) (arguments : List (List ℕ)) (most : ℕ) (reading : Reading) (writing : Writing) (r : Request) → Ends e arguments most reading writing → IsRequest r → SpellsNothing r.words r.groups → Asks arguments reading.left_old (text_of r) → length (text_of r) ≤ most
+    → (ReadFailed reading → ⊥) → (WriteFailed writing → ⊥) → IsEither (status_of e) InvalidCode NoMemory
+spells_none Answered arguments most rd wr r ends is none asks within read write =
     let a = ends.2 in
     absurd (none a.tree (spells_along r a.request a.tree (request_is rd r a.request is a.is_request asks.told a.read) a.spells))
-invalid_code Faulted arguments most rd wr r ends is none asks within read write = inl refl
-invalid_code NoCommand arguments most rd wr r ends is none asks within read write = absurd (ends.0 asks.command)
-invalid_code NoRequest arguments most rd wr r ends is none asks within read write = absurd (is_request rd r is asks.told ends.2)
-invalid_code SourceFailed arguments most rd wr r ends is none asks within read write = absurd (read ends.2)
-invalid_code SinkFailed arguments most rd wr r ends is none asks within read write = absurd (write ends.2.failed)
-invalid_code NoMemory arguments most rd wr r ends is none asks within read write = inr refl
-invalid_code TooLong arguments most rd wr r ends is none asks within read write = absurd (not_more most rd (text_of r) asks.told within ends.1)
+spells_none InvalidCode arguments most rd wr r ends is none asks within read write = inl refl
+spells_none NoCommand arguments most rd wr r ends is none asks within read write = absurd (ends.0 asks.command)
+spells_none NoRequest arguments most rd wr r ends is none asks within read write = absurd (is_request rd r is asks.told ends.2)
+spells_none SourceFailed arguments most rd wr r ends is none asks within read write = absurd (read ends.2)
+spells_none SinkFailed arguments most rd wr r ends is none asks within read write = absurd (write ends.2.failed)
+spells_none NoMemory arguments most rd wr r ends is none asks within read write = inr refl
+spells_none TooLong arguments most rd wr r ends is none asks within read write = absurd (not_more most rd (text_of r) asks.told within ends.1)
 
-pub no_request : (e : Ending) (arguments : List (List ℕ)) (most : ℕ) (reading : Reading) (writing : Writing) (bytes : List ℕ) → Ends e arguments most reading writing → IsNoRequest bytes → Asks arguments reading.left_old bytes → length bytes ≤ most
+pub text_of_none : (e : Ending) (arguments : List (List ℕ)) (most : ℕ) (reading : Reading) (writing : Writing) (bytes : List ℕ) → Ends e arguments most reading writing → ((r : Request) → IsRequest r → bytes ≢ text_of r) → Asks arguments reading.left_old bytes → length bytes ≤ most
     → (ReadFailed reading → ⊥) → IsEither (status_of e) NoRequest NoMemory
-no_request Answered arguments most rd wr bytes ends none asks within read =
+text_of_none Answered arguments most rd wr bytes ends none asks within read =
     let a = ends.2 in absurd (none a.request a.is_request (whole_is rd bytes (text_of a.request) asks.told a.read))
-no_request Faulted arguments most rd wr bytes ends none asks within read =
+text_of_none InvalidCode arguments most rd wr bytes ends none asks within read =
     let a = ends.2 in absurd (none a.request a.is_request (whole_is rd bytes (text_of a.request) asks.told a.read))
-no_request NoCommand arguments most rd wr bytes ends none asks within read = absurd (ends.0 asks.command)
-no_request NoRequest arguments most rd wr bytes ends none asks within read = inl refl
-no_request SourceFailed arguments most rd wr bytes ends none asks within read = absurd (read ends.2)
-no_request SinkFailed arguments most rd wr bytes ends none asks within read =
+text_of_none NoCommand arguments most rd wr bytes ends none asks within read = absurd (ends.0 asks.command)
+text_of_none NoRequest arguments most rd wr bytes ends none asks within read = inl refl
+text_of_none SourceFailed arguments most rd wr bytes ends none asks within read = absurd (read ends.2)
+text_of_none SinkFailed arguments most rd wr bytes ends none asks within read =
     let a = ends.2 in absurd (none a.request a.is_request (whole_is rd bytes (text_of a.request) asks.told a.read))
-no_request NoMemory arguments most rd wr bytes ends none asks within read = inr refl
-no_request TooLong arguments most rd wr bytes ends none asks within read = absurd (not_more most rd bytes asks.told within ends.1)
+text_of_none NoMemory arguments most rd wr bytes ends none asks within read = inr refl
+text_of_none TooLong arguments most rd wr bytes ends none asks within read = absurd (not_more most rd bytes asks.told within ends.1)
 
 pub too_many : (e : Ending) (arguments : List (List ℕ)) (most : ℕ) (reading : Reading) (writing : Writing) (bytes : List ℕ) → Ends e arguments most reading writing → Asks arguments reading.left_old bytes → most < length bytes
     → (ReadFailed reading → ⊥) → IsEither (status_of e) TooLong NoMemory
 too_many Answered arguments most rd wr bytes ends asks more read = absurd (not_whole most rd bytes (text_of ends.2.request) asks.told more ends.1 ends.2.read)
-too_many Faulted arguments most rd wr bytes ends asks more read = absurd (not_whole most rd bytes (text_of ends.2.request) asks.told more ends.1 ends.2.read)
+too_many InvalidCode arguments most rd wr bytes ends asks more read = absurd (not_whole most rd bytes (text_of ends.2.request) asks.told more ends.1 ends.2.read)
 too_many NoCommand arguments most rd wr bytes ends asks more read = absurd (ends.0 asks.command)
 too_many NoRequest arguments most rd wr bytes ends asks more read = absurd (not_whole most rd bytes ends.2.bytes asks.told more ends.1 ends.2.read)
 too_many SourceFailed arguments most rd wr bytes ends asks more read = absurd (read ends.2)
@@ -109,7 +109,7 @@ too_many TooLong arguments most rd wr bytes ends asks more read = inl refl
 -- an ending by its status
 pub unwritten : (e : Ending) → status_of e ≢ 0 → status_of e ≢ 1 → status_of e ≢ 5 → writes e ≡ false
 unwritten Answered a b c = absurd (a refl)
-unwritten Faulted a b c = absurd (b refl)
+unwritten InvalidCode a b c = absurd (b refl)
 unwritten NoCommand a b c = refl
 unwritten NoRequest a b c = refl
 unwritten SourceFailed a b c = refl
@@ -119,7 +119,7 @@ unwritten TooLong a b c = refl
 
 pub is_no_command : (e : Ending) → status_of e ≡ 2 → e ≡ NoCommand
 is_no_command Answered h = absurd (omega (arith, h))
-is_no_command Faulted h = absurd (omega (arith, h))
+is_no_command InvalidCode h = absurd (omega (arith, h))
 is_no_command NoCommand h = refl
 is_no_command NoRequest h = absurd (omega (arith, h))
 is_no_command SourceFailed h = absurd (omega (arith, h))
@@ -129,7 +129,7 @@ is_no_command TooLong h = absurd (omega (arith, h))
 
 pub within : (e : Ending) (arguments : List (List ℕ)) (most : ℕ) (reading : Reading) (writing : Writing) → Ends e arguments most reading writing → status_of e ≢ 7 → TookAtMost most reading
 within Answered arguments most rd wr ends h = ends.1
-within Faulted arguments most rd wr ends h = ends.1
+within InvalidCode arguments most rd wr ends h = ends.1
 within NoCommand arguments most rd wr ends h = ends.1
 within NoRequest arguments most rd wr ends h = ends.1
 within SourceFailed arguments most rd wr ends h = ends.1

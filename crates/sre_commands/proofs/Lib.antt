@@ -12,3 +12,5 @@ pub mod SoundLemmas
 pub mod AgainLemmas
 pub mod ReaderLemmas
 pub mod LeftLemmas
+pub mod EncodeLemmas
+pub mod DecodeLemmas

@@ -1,20 +1,26 @@
 -- What a token is read as, and what is no token of a number or a text.
-use Rattle.std.proofs.Common.{◌≡◌, ℕ, suc, ◌+◌, ◌≤◌, ◌<◌, ◌^◌, ◌&&◌, ◌||◌, ◌==◌, not, cond, nat_eq, nat_lt, Bool, true, false, if◌then◌else◌, List, [], ◌∷◌, ◌++◌, length, take, drop, min, Option, Some, None, Result, Ok, Err, refl, sym, ap, ◌∙◌, arith}
+use Rattle.std.proofs.Common.{◌≡◌, ℕ, suc, ◌+◌, ◌≤◌, ◌<◌, ◌^◌, ◌&&◌, ◌||◌, ◌==◌, not, cond, nat_eq, nat_lt, Bool, true, false, if◌then◌else◌, List, [], ◌∷◌, ◌++◌, length, take, drop, get_or, Option, Some, None, Result, Ok, Err, refl, sym, ap, ◌∙◌, arith}
 use Rattle.std.specs.Prelude.{unwrap_or}
 use Rattle.std.specs.Cmp.Lexicographic.{pointwise, same_text}
 use Rattle.std.specs.Fmt.{decimal}
-use Rattle.std.specs.List.{position, prefix_len}
+use Rattle.std.specs.List.{position_or_len, prefix_len}
 use Rattle.std.specs.Str.Parse.{digits_value}
 use Rattle.std.specs.Str.{all_scalars}
-use Rattle.std.proofs.lemmas.Bool.{ltb-true, ltb-false}
+use Rattle.std.proofs.lemmas.Bool.{ltb-true}
+use Rattle.std.proofs.lemmas.List.Sums.{prefix_len_is, prefix_len-le-length}
+use Rattle.memchr.specs.Find.{IsFirstByte}
 use Rattle.py_base.specs.Reading.{◌and_then◌, unless}
-use Rattle.sre_commands.specs.Error.{Read, malformed, no_memory}
+use Rattle.sre_commands.specs.Error.{Read, no_request, no_memory}
 use Rattle.sre_commands.specs.declared.error.ParseError.{ParseError}
-use Rattle.sre_commands.specs.declared.error.ParseError.TheVariants.{NoMemory, Malformed}
+use Rattle.sre_commands.specs.declared.error.ParseError.TheVariants.{NoMemory, NoRequest}
 use Rattle.sre_commands.specs.Tokens.Reader.{read_token, read_by_token, with_rest, is_end}
 use Rattle.sre_commands.specs.Tokens.Number.{number_in, read_number, read_word}
 use Rattle.sre_commands.specs.Tokens.Text.{token, spelled, text_in, read_text}
 use Rattle.sre_commands.proofs.AgainLemmas.{number_again, text_again}
+
+not_true : (b : Bool) → (b ≡ true → ⊥) → b ≡ false
+not_true true h = absurd (h refl)
+not_true false h = refl
 
 abbrev goes_on : ℕ → Bool
 goes_on b = not (is_end b)
@@ -30,40 +36,31 @@ before_end (b ∷ bytes) = at (is_end b) (before_end bytes)
     at true e = refl
     at false e = rw one (ap (λ r. r and_then λ word rest. Ok (b ∷ word, rest)) e)
 
-prefix_within : (bytes : List ℕ) → prefix_len goes_on bytes ≤ length bytes
-prefix_within [] = omega arith
-prefix_within (b ∷ bytes) = at (goes_on b) (prefix_within bytes)
-  where
-    at : (c : Bool) → prefix_len goes_on bytes ≤ length bytes → cond c (1 + prefix_len goes_on bytes) 0 ≤ length (b ∷ bytes)
-    at true h = omega (arith, h)
-    at false h = omega arith
+-- the place of the first end, or how many bytes there are
+pub end_found : (bytes : List ℕ) (o : Option ℕ) → IsFirstByte is_end bytes o → unwrap_or o (length bytes) ≡ position_or_len is_end bytes
+end_found bytes None h = sym (prefix_len_is goes_on bytes (length bytes) 0 (omega arith) (λ k lt. ap not (not_true (is_end (get_or bytes k 0)) (h k (omega arith) lt))) (λ lt. absurd (omega arith)))
+end_found bytes (Some n) h = sym (prefix_len_is goes_on bytes n 0 (omega (arith, h.0.high)) (λ k lt. ap not (not_true (is_end (get_or bytes k 0)) (h.0.before k (omega arith) lt))) (λ lt. ap not h.1))
 
-length_is : (bytes : List ℕ) → min (unwrap_or (position is_end bytes) (length bytes)) (length bytes) ≡ prefix_len goes_on bytes
-length_is bytes = at (nat_lt (prefix_len goes_on bytes) (length bytes)) refl
-  where
-    at : (c : Bool) → nat_lt (prefix_len goes_on bytes) (length bytes) ≡ c → min (unwrap_or (cond c (Some (prefix_len goes_on bytes)) None) (length bytes)) (length bytes) ≡ prefix_len goes_on bytes
-    at true e = let h = ltb-true (prefix_len goes_on bytes) (length bytes) e in omega (arith, h)
-    at false e = let h = ltb-false (prefix_len goes_on bytes) (length bytes) e in omega (arith, h, prefix_within bytes)
+pub end_within : (bytes : List ℕ) → position_or_len is_end bytes ≤ length bytes
+end_within bytes = prefix_len-le-length goes_on bytes
 
-pub token_is : (bytes first rest : List ℕ) (n : ℕ) → n ≡ min (unwrap_or (position is_end bytes) (length bytes)) (length bytes) → first ≡ take n bytes → rest ≡ drop n bytes → read_token bytes ≡ Ok (first, rest)
-token_is bytes first rest n e f g =
-    let is : n ≡ prefix_len goes_on bytes = e ∙ length_is bytes in
-    rw (f, g, is) (before_end bytes)
+pub token_is : (bytes first rest : List ℕ) (n : ℕ) → n ≡ position_or_len is_end bytes → first ≡ take n bytes → rest ≡ drop n bytes → read_token bytes ≡ Ok (first, rest)
+token_is bytes first rest n e f g = rw (f, g, e) (before_end bytes)
 
-refused : {A : Type 0} (b c : Bool) (v : A) → (b ≡ true → c ≡ true → ⊥) → (let r : Result A ParseError = if b && c then Ok v else malformed in r ≡ malformed)
-refused true true v h = absurd (h refl refl)
-refused true false v h = refl
-refused false c v h = refl
+no_value : {A : Type 0} (b c : Bool) (v : A) → (b ≡ true → c ≡ true → ⊥) → (let r : Result A ParseError = if b && c then Ok v else no_request in r ≡ no_request)
+no_value true true v h = absurd (h refl refl)
+no_value true false v h = refl
+no_value false c v h = refl
 
-number_refused : (limit : ℕ) (word : List ℕ) → ((n : ℕ) → n < limit → word ≡ decimal n → ⊥) → number_in limit word ≡ malformed
-number_refused limit word none =
+not_number_in : (limit : ℕ) (word : List ℕ) → ((n : ℕ) → n < limit → word ≡ decimal n → ⊥) → number_in limit word ≡ no_request
+not_number_in limit word none =
     let v = digits_value 10 word in
-    refused (pointwise nat_eq (decimal v) word) (nat_lt v limit) v (λ h k. none v (ltb-true v limit k) (sym (same_text (decimal v) word (sym h))))
+    no_value (pointwise nat_eq (decimal v) word) (nat_lt v limit) v (λ h k. none v (ltb-true v limit k) (sym (same_text (decimal v) word (sym h))))
 
-text_refused : (word : List ℕ) → ((text : List ℕ) → all_scalars text ≡ true → word ≡ token text → ⊥) → text_in word ≡ malformed
-text_refused word none =
+not_text_in : (word : List ℕ) → ((text : List ℕ) → all_scalars text ≡ true → word ≡ token text → ⊥) → text_in word ≡ no_request
+not_text_in word none =
     let v = spelled word in
-    refused (pointwise nat_eq (token v) word) (all_scalars v) v (λ h k. none v k (sym (same_text (token v) word (sym h))))
+    no_value (pointwise nat_eq (token v) word) (all_scalars v) v (λ h k. none v k (sym (same_text (token v) word (sym h))))
 
 -- what a token is, is what is read
 by_token_is : {A : Type 0} (value : List ℕ → Result A ParseError) (bytes word rest : List ℕ) (r : Result A ParseError) → read_token bytes ≡ Ok (word, rest) → value word ≡ r → with_rest r rest ≡ read_by_token value bytes
@@ -72,18 +69,18 @@ by_token_is value bytes word rest r e is = sym (ap (λ r. r and_then λ word res
 pub number_read : (bytes word rest : List ℕ) (n : ℕ) → read_token bytes ≡ Ok (word, rest) → n < 2 ^ 64 → word ≡ decimal n → Ok (n, rest) ≡ read_number bytes
 number_read bytes word rest n e small is = by_token_is (number_in (2 ^ 64)) bytes word rest (Ok n) e (ap (number_in (2 ^ 64)) is ∙ number_again (2 ^ 64) n small small)
 
-pub no_number : (bytes word rest : List ℕ) → read_token bytes ≡ Ok (word, rest) → ((n : ℕ) → n < 2 ^ 64 → word ≡ decimal n → ⊥) → malformed ≡ read_number bytes
-no_number bytes word rest e none = by_token_is (number_in (2 ^ 64)) bytes word rest malformed e (number_refused (2 ^ 64) word none)
+pub no_number : (bytes word rest : List ℕ) → read_token bytes ≡ Ok (word, rest) → ((n : ℕ) → n < 2 ^ 64 → word ≡ decimal n → ⊥) → no_request ≡ read_number bytes
+no_number bytes word rest e none = by_token_is (number_in (2 ^ 64)) bytes word rest no_request e (not_number_in (2 ^ 64) word none)
 
 pub word_read : (bytes word rest : List ℕ) (n : ℕ) → read_token bytes ≡ Ok (word, rest) → n < 2 ^ 32 → word ≡ decimal n → Ok (n, rest) ≡ read_word bytes
 word_read bytes word rest n e small is = by_token_is (number_in (2 ^ 32)) bytes word rest (Ok n) e (ap (number_in (2 ^ 32)) is ∙ number_again (2 ^ 32) n (omega (arith, small)) small)
 
-pub no_word : (bytes word rest : List ℕ) → read_token bytes ≡ Ok (word, rest) → ((n : ℕ) → n < 2 ^ 32 → word ≡ decimal n → ⊥) → malformed ≡ read_word bytes
-no_word bytes word rest e none = by_token_is (number_in (2 ^ 32)) bytes word rest malformed e (number_refused (2 ^ 32) word none)
+pub no_word : (bytes word rest : List ℕ) → read_token bytes ≡ Ok (word, rest) → ((n : ℕ) → n < 2 ^ 32 → word ≡ decimal n → ⊥) → no_request ≡ read_word bytes
+no_word bytes word rest e none = by_token_is (number_in (2 ^ 32)) bytes word rest no_request e (not_number_in (2 ^ 32) word none)
 
 pub text_read : (bytes word rest text : List ℕ) → read_token bytes ≡ Ok (word, rest) → all_scalars text ≡ true → word ≡ token text → Ok (text, rest) ≡ read_text bytes
 text_read bytes word rest text e scalars is = by_token_is text_in bytes word rest (Ok text) e (ap text_in is ∙ text_again text scalars)
 
-pub no_text : (bytes word rest : List ℕ) (e : ParseError) → read_token bytes ≡ Ok (word, rest) → (e ≡ Malformed → (text : List ℕ) → all_scalars text ≡ true → word ≡ token text → ⊥) → unless (no_memory e) (Err e ≡ read_text bytes)
+pub no_text : (bytes word rest : List ℕ) (e : ParseError) → read_token bytes ≡ Ok (word, rest) → (e ≡ NoRequest → (text : List ℕ) → all_scalars text ≡ true → word ≡ token text → ⊥) → unless (no_memory e) (Err e ≡ read_text bytes)
 no_text bytes word rest NoMemory e none = tt
-no_text bytes word rest Malformed e none = by_token_is text_in bytes word rest malformed e (text_refused word (none refl))
+no_text bytes word rest NoRequest e none = by_token_is text_in bytes word rest no_request e (not_text_in word (none refl))

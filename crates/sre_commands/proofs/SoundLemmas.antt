@@ -14,16 +14,16 @@ use Rattle.sre_commands.specs.Commands.Sub.Template.{ArePairs, IsTemplate, pair_
 use Rattle.sre_commands.specs.Commands.Sub.Request.{Request, IsRequest, PlainCode, line, text_of}
 use Rattle.sre_commands.specs.Commands.Sub.Reader.{read_all_words, read_line, read_code, read_lines, whole, read_request}
 use Rattle.py_base.specs.Reading.{◌and_then◌, is_next}
-use Rattle.sre_commands.specs.Error.{Read, malformed}
+use Rattle.sre_commands.specs.Error.{Read, no_request}
 use Rattle.sre_commands.specs.declared.error.ParseError.{ParseError}
-use Rattle.sre_commands.specs.declared.error.ParseError.TheVariants.{Malformed}
+use Rattle.sre_commands.specs.declared.error.ParseError.TheVariants.{NoRequest}
 use Rattle.sre_commands.specs.Tokens.Reader.{read_past, read_token, read_by_token, with_rest, is_end}
 use Rattle.sre_commands.specs.Tokens.Number.{numbers, group_token, number_in, read_number, read_word, read_words, read_group}
 use Rattle.sre_commands.specs.Tokens.Text.{token, spelled, text_in, read_text}
 use Rattle.py_base.proofs.HoldsLemmas.{Holds, ok, bad, then_holds, if_holds, check, guard, weaker, next_is}
 
 pub a_past : (name bytes : List ℕ) → Holds (λ _ x. bytes ≡ name ++ x) (read_past name bytes)
-a_past name bytes = check (pointwise nat_eq (take (length name) bytes) name) Malformed tt (drop (length name) bytes) λ h.
+a_past name bytes = check (pointwise nat_eq (take (length name) bytes) name) NoRequest tt (drop (length name) bytes) λ h.
     sym (take-append-drop (length name) bytes) ∙ ap (λ (l : List ℕ). l ++ drop (length name) bytes) (same_text (take (length name) bytes) name (sym h))
 
 pub a_token : (bytes : List ℕ) → Holds (λ token x. bytes ≡ token ++ x) (read_token bytes)
@@ -40,7 +40,7 @@ by_token {A} P spell value h bytes = then_holds (a_token bytes) λ token x e. wi
     let p = h token a is in (p.0, e ∙ ap (λ (l : List ℕ). l ++ x) p.1)
 
 -- what two tests told
-pub tested : {A : Type 0} (b c : Bool) (v a : A) → (let r : Result A ParseError = if b && c then Ok v else malformed in r ≡ Ok a) → (b ≡ true) × (c ≡ true) × (v ≡ a)
+pub tested : {A : Type 0} (b c : Bool) (v a : A) → (let r : Result A ParseError = if b && c then Ok v else no_request in r ≡ Ok a) → (b ≡ true) × (c ≡ true) × (v ≡ a)
 tested true true v a e = (refl, refl, ap (λ r. result_unwrap_or r v) e)
 tested true false v a e = absurd (cc e)
 tested false true v a e = absurd (cc e)
@@ -76,7 +76,7 @@ words (suc n) bytes = if_holds (is_next 32 bytes)
 
 pub a_group : (groups : ℕ) (bytes : List ℕ) → Holds (λ g x. (g ≤ groups) × (bytes ≡ group_token g ++ x)) (read_group groups bytes)
 a_group groups bytes = then_holds (a_past (codes "i") bytes) λ _ x e. then_holds (a_number x) λ g y p.
-    check (nat_le g groups) Malformed g y λ h. (leb-true g groups h, e ∙ ap (λ (l : List ℕ). 105 ∷ l) p.1)
+    check (nat_le g groups) NoRequest g y λ h. (leb-true g groups h, e ∙ ap (λ (l : List ℕ). 105 ∷ l) p.1)
 
 -- what may be a pair, and its tokens after the first space
 abbrev pub Is : ℕ → ℕ × List ℕ → Type 0
@@ -158,7 +158,7 @@ whole_is : (bytes : List ℕ) (read : Read Request) (r : Request) → Holds (λ 
 whole_is bytes (Err e) r h is = absurd (cc is)
 whole_is bytes (Ok p) r h is = at (length p.1 == 0) refl is
   where
-    at : (b : Bool) → (length p.1 == 0) ≡ b → (let o : Result Request ParseError = if b then Ok p.0 else malformed in o ≡ Ok r) → IsRequest r × (bytes ≡ text_of r)
+    at : (b : Bool) → (length p.1 == 0) ≡ b → (let o : Result Request ParseError = if b then Ok p.0 else no_request in o ≡ Ok r) → IsRequest r × (bytes ≡ text_of r)
     at true none e =
         let q = h.by p.0 p.1 refl in
         let same : p.0 ≡ r = ap (λ o. result_unwrap_or o p.0) e in

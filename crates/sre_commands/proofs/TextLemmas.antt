@@ -8,7 +8,7 @@ use Rattle.std.proofs.lemmas.List.{append-nil, take_more}
 use Rattle.std.proofs.lemmas.List.Elements.{All-head, All-tail}
 use Rattle.std.proofs.lemmas.Str.{encodes-append}
 use Rattle.sre_match.specs.Matches.{Span}
-use Rattle.sre_match.specs.Filling.{Replacement, group_span, text_between, group_text, fill_pairs, fill, result_from}
+use Rattle.sre_commands.specs.Commands.Sub.Filling.{Replacement, group_span, text_between, group_text, fill_pairs, fill, result_from}
 use Rattle.sre_commands.specs.Commands.Sub.Template.{IsTemplate, ArePairs}
 
 -- one character more
@@ -53,7 +53,7 @@ scalars_pairs groups (p ∷ pairs) s x h are =
     scalars_append (group_text s x p.0) (p.1 ++ fill_pairs pairs s x) (scalars_between s (group_span x p.0) h)
     (scalars_append p.1 (fill_pairs pairs s x) first.1 (scalars_pairs groups pairs s x h more))
 
--- a list that is filled from a text is a text
+-- a template that is filled from a text is a text
 scalars_fill : (groups : ℕ) (list : Replacement) (s : List ℕ) (x : Span) → all_scalars s ≡ true → IsTemplate groups list → all_scalars (fill list s x) ≡ true
 scalars_fill groups list s x h is = scalars_append list.head (fill_pairs list.pairs s x) is.head (scalars_pairs groups list.pairs s x h is.pairs)
 

@@ -6,11 +6,11 @@ use Rattle.std.proofs.lemmas.Bool.{eqb-true, leb-true, leb-false, ltb-true}
 use Rattle.sre_code.specs.PlainTree.{PlainTree}
 use Rattle.sre_match.specs.Matches.{Span, next_span, is_empty_span, spans}
 use Rattle.sre_match.specs.Search.{Search, NextStart, start_of, start_after}
-use Rattle.sre_match.specs.Filling.{Replacement, fill, result_from, result_of}
+use Rattle.sre_commands.specs.Commands.Sub.Filling.{Replacement, fill, result_from, result_of}
 use Rattle.sre_match.proofs.Spans.{Follows, next_follows, turns, turns_fall, wanted, wanted_first, wanted_none, wanted_full, wanted_some}
 use Rattle.sre_commands.specs.Commands.Sub.Answer.{is_reached, up_to}
 
--- so much of a result is copied, up to a place where the walk stands
+-- so much of a result is copied, up to the place where the walk is
 pub record Copied (list : Replacement) (s : List ℕ) (t : PlainTree) (limit count : ℕ) (next_start : NextStart) (place : ℕ) (units : List ℕ) : Type 0 where
   pub place_is : place ≡ next_start.place
   pub within : place ≤ length s
@@ -81,7 +81,7 @@ follows_is list s t limit count next_start place units x k e =
     let f = next_follows t s next_start.place next_start.advance false x (omega (arith, k.place_is, k.within)) n.next in
     subst (λ (q : ℕ). Follows s q next_start.advance x) (sym k.place_is) f
 
--- one gap and one filled list more
+-- one gap and one filled template more
 pub copied_more : (list : Replacement) (s : List ℕ) (t : PlainTree) (limit count : ℕ) (next_start after : NextStart) (place : ℕ) (was mid new : List ℕ) (x : Span)
     → Copied list s t limit count next_start place was
     → Some x ≡ up_to limit count (next_span t s next_start.place next_start.advance false)
@@ -123,7 +123,7 @@ over_same u t v s limit count q advance o et es e = rw (← et, ← es) e
 pub moved_same : (u t : PlainTree) (v s : List ℕ) (limit count : ℕ) (next_start after : NextStart) → u ≡ t → v ≡ s → after ≡ start_after (up_to limit count (next_span u v next_start.place next_start.advance false)) next_start → after ≡ start_after (up_to limit count (next_span t s next_start.place next_start.advance false)) next_start
 moved_same u t v s limit count next_start after et es e = rw (← et, ← es) e
 
--- behind a span the walk stands nearer to its end
+-- after a span the walk is nearer to its end
 pub falls : (list : Replacement) (s : List ℕ) (t : PlainTree) (limit count : ℕ) (next_start after : NextStart) (place : ℕ) (was : List ℕ) (x : Span)
     → Copied list s t limit count next_start place was
     → Some x ≡ up_to limit count (next_span t s next_start.place next_start.advance false)

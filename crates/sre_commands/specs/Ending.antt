@@ -1,11 +1,11 @@
 -- How a run ends, and the status of each ending.
 use Rattle.std.specs.Prelude.{◌≡◌, ℕ, Bool, true, false, ◌⊎◌}
 use Rattle.sre_commands.specs.declared.ending.Ending.{Ending}
-use Rattle.sre_commands.specs.declared.ending.Ending.TheVariants.{Answered, Faulted, NoCommand, NoRequest, SourceFailed, SinkFailed, NoMemory, TooLong}
+use Rattle.sre_commands.specs.declared.ending.Ending.TheVariants.{Answered, InvalidCode, NoCommand, NoRequest, SourceFailed, SinkFailed, NoMemory, TooLong}
 
 abbrev pub status_of : Ending → ℕ
 status_of Answered = 0
-status_of Faulted = 1
+status_of InvalidCode = 1
 status_of NoCommand = 2
 status_of NoRequest = 3
 status_of SourceFailed = 4
@@ -24,7 +24,7 @@ IsEither status a b = (status ≡ status_of a) ⊎ (status ≡ status_of b)
 -- whether the sink was called
 abbrev pub writes : Ending → Bool
 writes Answered = true
-writes Faulted = true
+writes InvalidCode = true
 writes NoCommand = false
 writes NoRequest = false
 writes SourceFailed = false

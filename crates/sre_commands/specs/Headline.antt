@@ -6,10 +6,11 @@ use Rattle.sre_commands.specs.Commands.Sub.Request.{Request, IsRequest, text_of}
 use Rattle.sre_commands.specs.Commands.Sub.Answer.{answer_of}
 use Rattle.sre_commands.specs.Streams.{Reading, Writing, ReadWhole, Wrote}
 
--- The source was read to its end as one request, and its code words spell one tree. What was written is the request's answer by that tree:
--- the subject with its spans replaced by the filled replacement template, all else kept, and how many spans there were.
--- Each span is at the least place from the end of the one before that has an allowed outcome, and is the first allowed outcome there,
--- until none is left or a limit other than 0 is reached.
+-- The source was read to its end as one request, and its code words spell one tree. What was
+-- written is the request's answer by that tree: the subject with its spans replaced by the filled
+-- replacement template, all else kept, and how many spans there were. Each span is at the least
+-- place from the end of the one before that has an allowed outcome, and is the first allowed
+-- outcome there, until none is left or a limit other than 0 is reached.
 pub record IsAnswered (reading : Reading) (writing : Writing) : Type 0 where
   pub request : Request
   pub is_request : IsRequest request

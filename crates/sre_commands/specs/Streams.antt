@@ -3,7 +3,8 @@ use Rattle.std.specs.Prelude.{ℕ, ◌<◌, ◌≤◌, List, length, take, Optio
 use Rattle.std.specs.Io.KnownBytes.{Consumes, IsAtEnd, Appends}
 use Rattle.py_base.specs.Stream.Faults.{Rose}
 
--- of a source: the bytes that are left, where they are told, and how often it failed, before and after
+-- of a source: the bytes that are left, where they are told, and how often it failed, before and
+-- after
 pub record Reading : Type 0 where
   pub left_old : Option (List ℕ)
   pub left_new : Option (List ℕ)
@@ -11,9 +12,16 @@ pub record Reading : Type 0 where
   pub faults_new : ℕ
 
 abbrev pub reading_of : {S : Type 0} → (S → Option (List ℕ)) → (S → ℕ) → S → S → Reading
-reading_of left faults old new = record { left_old = left old; left_new = left new; faults_old = faults old; faults_new = faults new }
+reading_of left faults old new =
+    record {
+      left_old = left old;
+      left_new = left new;
+      faults_old = faults old;
+      faults_new = faults new;
+    }
 
--- of a sink: the bytes that it holds, where they are told, and how often it failed, before and after
+-- of a sink: the bytes that it holds, where they are told, and how often it failed, before and
+-- after
 pub record Writing : Type 0 where
   pub held_old : Option (List ℕ)
   pub held_new : Option (List ℕ)
@@ -21,7 +29,13 @@ pub record Writing : Type 0 where
   pub faults_new : ℕ
 
 abbrev pub writing_of : {K : Type 0} → (K → Option (List ℕ)) → (K → ℕ) → K → K → Writing
-writing_of held faults old new = record { held_old = held old; held_new = held new; faults_old = faults old; faults_new = faults new }
+writing_of held faults old new =
+    record {
+      held_old = held old;
+      held_new = held new;
+      faults_old = faults old;
+      faults_new = faults new;
+    }
 
 -- the source, the sink failed
 abbrev pub ReadFailed : Reading → Type 0

@@ -1,3 +1,4 @@
 pub mod Reader
+pub mod Hexadecimal
 pub mod Number
 pub mod Text

@@ -8,8 +8,8 @@ ghost use Rattle.sre_commands.specs.Ending.{status_of};
 pub enum Ending {
     /// The answer was written.
     Answered,
-    /// The line of what is wrong with the request was written.
-    Faulted,
+    /// The code words spell no tree, and the line that says so was written.
+    InvalidCode,
     /// The words are no command.
     NoCommand,
     /// The bytes are no request.
@@ -30,7 +30,7 @@ pub fn status_of(ending: Ending) -> u8
 {
     match ending {
         Ending::Answered => 0,
-        Ending::Faulted => 1,
+        Ending::InvalidCode => 1,
         Ending::NoCommand => 2,
         Ending::NoRequest => 3,
         Ending::SourceFailed => 4,

@@ -1,6 +1,5 @@
 //! Why bytes are no request.
 
-use hex::FromHexError;
 use std::alloc::{AllocError, AllocFailed};
 
 /// Why bytes are no request.
@@ -9,7 +8,7 @@ pub enum ParseError {
     /// Memory ran out.
     NoMemory,
     /// The bytes are the text of no request.
-    Malformed,
+    NoRequest,
 }
 
 impl From<AllocError> for ParseError {
@@ -31,20 +30,5 @@ impl<T: Drop> From<AllocFailed<T>> for ParseError {
 
     fn from(_error: AllocFailed<T>) -> ParseError {
         ParseError::NoMemory
-    }
-}
-
-impl From<FromHexError> for ParseError {
-    ghost use Rattle.std.specs.Prelude.{◌≡◌, ◌≢◌};
-    ghost use Rattle.hex.specs.declared.error.FromHexError.TheVariants.{OutOfMemory};
-    ghost use Rattle.sre_commands.specs.declared.error.ParseError.TheVariants.{Malformed};
-
-    ghost from_gives = { λ cause e. e ≡ Malformed → cause ≢ OutOfMemory };
-
-    fn from(error: FromHexError) -> ParseError {
-        match error {
-            FromHexError::OutOfMemory => ParseError::NoMemory,
-            _ => ParseError::Malformed,
-        }
     }
 }

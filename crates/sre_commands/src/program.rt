@@ -2,11 +2,11 @@
 
 ghost use Rattle.std.specs.Prelude.{◌≡◌, ◌≢◌, ◌↔◌, ◌≤◌, ◌<◌, ◌⊎◌, ℕ, List, map, length, false, IsTrue, IfOk, IfErr, OnOk, string_bytes};
 ghost use Rattle.sre_code.specs.PlainTree.{PlainTree};
-ghost use Rattle.sre_code.specs.Spelling.{Spells};
+ghost use Rattle.sre_code.specs.Spelling.{Spells, SpellsNothing};
 ghost use Rattle.sre_commands.specs.Commands.Sub.Request.{Request, IsRequest, text_of, request_of};
 ghost use Rattle.sre_commands.specs.Ending.{status_of, IsStatus, IsEither, writes};
 ghost use Rattle.sre_commands.specs.Headline.{IsAnswered};
-ghost use Rattle.sre_commands.specs.Program.{IsSub, HasInvalidCode, IsNoRequest, RepliesTo, IsFaulted, IsMalformed, IsCutShort, Ends, EndsReading, Asks};
+ghost use Rattle.sre_commands.specs.Program.{IsSub, RepliesTo, IsInvalidCode, IsNoRequest, IsCutShort, Ends, EndsReading, Asks};
 ghost use Rattle.sre_commands.specs.Streams.{reading_of, writing_of, ReadFailed, WriteFailed, ReadWhole, TookAtMost, TookMoreThan, Wrote, WroteLess};
 
 use crate::commands::sub::answer::answer;
@@ -19,13 +19,13 @@ use sre_code::{CodeError, decode};
 use std::alloc::Global;
 use std::sync::ledger::Ledger;
 
-/// The line that is written.
+/// What is written.
 #[derive(Debug, Drop)]
 enum Reply {
-    /// The subject with its spans replaced.
-    Answer(String),
-    /// The name of what is wrong with the request.
-    Fault(String),
+    /// The answer's line.
+    Answer(Vec<u8>),
+    /// The line that says that the code words spell no tree.
+    InvalidCode,
 }
 
 // Whether the arguments are those of the one command.
@@ -60,7 +60,7 @@ fn read_request<S: Source>(alloc: Global, source: &mut S) -> Result<Substitution
     match parse(alloc, &bytes) {
         Ok(asked) => Ok(asked),
         Err(ParseError::NoMemory) => Err(Ending::NoMemory),
-        Err(ParseError::Malformed) => Err(Ending::NoRequest),
+        Err(ParseError::NoRequest) => Err(Ending::NoRequest),
     }
 }
 
@@ -80,24 +80,21 @@ fn reply_to<L: Ledger>(
             Err(_) => Err(Ending::NoMemory),
         },
         Err(CodeError::NoMemory) => Err(Ending::NoMemory),
-        Err(CodeError::InvalidCode) => match String::from_str(alloc, "error invalid_code\n") {
-            Ok(line) => Ok(Reply::Fault(line)),
-            Err(_) => Err(Ending::NoMemory),
-        },
+        Err(CodeError::InvalidCode) => Ok(Reply::InvalidCode),
     }
 }
 
 // Writes the line, and answers the ending, or that the sink failed.
-fn written<K: Sink>(sink: &mut K, line: &String, ending: Ending) -> Ending
+fn written<K: Sink>(sink: &mut K, line: &[u8], ending: Ending) -> Ending
     ensures ends { (result ≡ ending) ⊎ (result ≡ Ending.SinkFailed) }
     ensures all { result ≢ Ending.SinkFailed → Wrote
-        (writing_of K.contents K.faults sink.old sink.new) (string_bytes line.now) }
+        (writing_of K.contents K.faults sink.old sink.new) line.now }
     ensures less { result ≢ ending → WroteLess
-        (writing_of K.contents K.faults sink.old sink.new) (string_bytes line.now) }
+        (writing_of K.contents K.faults sink.old sink.new) line.now }
     ensures failed { result ≢ ending
         → WriteFailed (writing_of K.contents K.faults sink.old sink.new) }
 {
-    match write_all(sink, line.as_bytes()) {
+    match write_all(sink, line) {
         Ok(()) => ending,
         Err(_) => Ending::SinkFailed,
     }
@@ -126,7 +123,7 @@ fn act<S: Source, K: Sink, L: Ledger>(
     };
     match reply_to(alloc, &asked, steps) {
         Ok(Reply::Answer(line)) => written(sink, &line, Ending::Answered),
-        Ok(Reply::Fault(line)) => written(sink, &line, Ending::Faulted),
+        Ok(Reply::InvalidCode) => written(sink, b"error invalid_code\n", Ending::InvalidCode),
         Err(ending) => ending,
     }
 }
@@ -147,12 +144,12 @@ pub fn run<S: Source, K: Sink, L: Ledger>(
 
     // Every other status, and its cause.
     ensures known { IsStatus result }
-    ensures faulted { result ≡ status_of Ending.Faulted → IsFaulted
+    ensures invalid_code { result ≡ status_of Ending.InvalidCode → IsInvalidCode
         (reading_of S.left S.faults source.old source.new)
         (writing_of K.contents K.faults sink.old sink.new) }
     ensures no_command { (result ≡ status_of Ending.NoCommand)
         ↔ (IsSub (map string_bytes arguments.now) → ⊥) }
-    ensures malformed { result ≡ status_of Ending.NoRequest → IsMalformed
+    ensures no_request { result ≡ status_of Ending.NoRequest → IsNoRequest
         (reading_of S.left S.faults source.old source.new) }
     ensures source_failed { result ≡ status_of Ending.SourceFailed → ReadFailed
         (reading_of S.left S.faults source.old source.new) }
@@ -166,7 +163,7 @@ pub fn run<S: Source, K: Sink, L: Ledger>(
 
     // What is left as it was.
     ensures unread { result ≡ status_of Ending.NoCommand → source.new ≡ source.old }
-    ensures unwritten { result ≢ status_of Ending.Answered → result ≢ status_of Ending.Faulted
+    ensures unwritten { result ≢ status_of Ending.Answered → result ≢ status_of Ending.InvalidCode
         → result ≢ status_of Ending.SinkFailed → sink.new ≡ sink.old }
 
     // What a source that tells its bytes brings about, where no stream fails: its answer, the line
@@ -178,13 +175,14 @@ pub fn run<S: Source, K: Sink, L: Ledger>(
         → ¬ ReadFailed (reading_of S.left S.faults source.old source.new)
         → ¬ WriteFailed (writing_of K.contents K.faults sink.old sink.new)
         → IsEither result Ending.Answered Ending.NoMemory }
-    ensures invalid_code { (r : Request) → IsRequest r → HasInvalidCode r
+    ensures spells_none { (r : Request) → IsRequest r → SpellsNothing r.words r.groups
         → Asks (map string_bytes arguments.now) (S.left source.old) (text_of r)
         → length (text_of r) ≤ MOST_BYTES
         → ¬ ReadFailed (reading_of S.left S.faults source.old source.new)
         → ¬ WriteFailed (writing_of K.contents K.faults sink.old sink.new)
-        → IsEither result Ending.Faulted Ending.NoMemory }
-    ensures no_request { (bytes : List ℕ) → IsNoRequest bytes
+        → IsEither result Ending.InvalidCode Ending.NoMemory }
+    ensures text_of_none { (bytes : List ℕ)
+        → ((r : Request) → IsRequest r → bytes ≢ text_of r)
         → Asks (map string_bytes arguments.now) (S.left source.old) bytes
         → length bytes ≤ MOST_BYTES
         → ¬ ReadFailed (reading_of S.left S.faults source.old source.new)

@@ -11,7 +11,7 @@ use std::alloc::{AllocError, Global};
 pub const MOST_BYTES: usize = 16_777_216;
 
 // How many bytes are read at most in one call.
-const BUFFER_BYTES: usize = 65_536;
+const BUFFER_BYTES: usize = 16_384;
 
 /// Why the bytes were not read.
 #[derive(Clone, Copy, Debug, PartialEq, Eq)]

@@ -8,7 +8,6 @@ use Rattle.sre_code.specs.PlainTree.{PlainTree, any_all, lit, repeat, look, noth
 use Rattle.sre_match.specs.Anchors.{is_at_anchor}
 use Rattle.sre_match.specs.Attempts.{Next, failed, passed, after, cut, negated, span_of}
 use Rattle.sre_match.specs.Cursor.{fits_text}
-use Rattle.sre_match.specs.Filling.{fill}
 use Rattle.sre_match.specs.Matches.{Span, first_allowed, next_within, next_span, reads, reads_within, next_reads, spans_of, spans}
 use Rattle.sre_match.specs.Members.{is_member}
 use Rattle.sre_match.specs.Paths.{paths}
@@ -121,10 +120,6 @@ past_the_subject = refl
 
 pub after_an_empty_span : start_after (Some (from_to 0 0)) (record { place = 0; advance = false }) ≡ record { place = 0; advance = true }
 after_an_empty_span = refl
-
--- `<`, group 1, `|`, group 2, `>`, where group 2 is unset
-pub filled : fill (record { head = codes "<"; pairs = (1, codes "|") ∷ (2, codes ">") ∷ [] }) (codes "abc") (record { start = 0; stop = 3; marks = record { group = 1; start = 1; stop = 2 } ∷ [] }) ≡ codes "<b|>"
-filled = refl
 
 pub within_range : is_member (RangeItem 97 99 ∷ []) 98 ≡ true
 within_range = refl

@@ -14,5 +14,6 @@ faults_after_read faults (Err e) = one_more faults
 
 -- a write that fails is counted, and one that takes nothing of a piece
 abbrev pub faults_after_write : {E : Type 0} → ℕ → List ℕ → Result ℕ E → ℕ
-faults_after_write faults piece (Ok count) = if count == 0 && not (length piece == 0) then one_more faults else faults
+faults_after_write faults piece (Ok count) =
+    if count == 0 && not (length piece == 0) then one_more faults else faults
 faults_after_write faults piece (Err e) = one_more faults

@@ -88,7 +88,8 @@ impl<W: Write + Drop> Sink for StdSink<W> {
         ensures bound { WritesAtMost result piece.now }
         ensures bytes { WriteAppends self.old.bytes self.new.bytes result piece.now }
         ensures cause { HasCause self.old.faults self.new.faults result }
-        ensures stuck { result ≡ Ok 0 → 0 < length piece.now → Rose self.old.faults self.new.faults }
+        ensures stuck { result ≡ Ok 0 → 0 < length piece.now
+            → Rose self.old.faults self.new.faults }
         ensures counted { self.new.faults ≡ faults_after_write self.old.faults piece.now result }
     {
         match self.inner.write(piece) {

@@ -1,3 +1,4 @@
+pub mod Filling
 pub mod Template
 pub mod Request
 pub mod Reader

@@ -4,7 +4,7 @@ use Rattle.std.specs.Cmp.Lexicographic.{pointwise}
 use Rattle.std.specs.Result.{result_unwrap_or}
 use Rattle.std.specs.Str.{all_scalars, chars}
 use Rattle.hex.specs.Hex.{encode_lower, decode_of}
-use Rattle.sre_commands.specs.Error.{Read, malformed}
+use Rattle.sre_commands.specs.Error.{Read, no_request}
 use Rattle.sre_commands.specs.declared.error.ParseError.{ParseError}
 use Rattle.sre_commands.specs.Tokens.Reader.{read_by_token}
 
@@ -18,7 +18,10 @@ spelled bytes = chars (result_unwrap_or (decode_of (drop 1 bytes)) [])
 
 -- the text whose token these bytes are
 abbrev pub text_in : List ℕ → Result (List ℕ) ParseError
-text_in bytes = if pointwise nat_eq (token (spelled bytes)) bytes && all_scalars (spelled bytes) then Ok (spelled bytes) else malformed
+text_in bytes =
+    if pointwise nat_eq (token (spelled bytes)) bytes && all_scalars (spelled bytes)
+    then Ok (spelled bytes)
+    else no_request
 
 abbrev pub read_text : List ℕ → Read (List ℕ)
 read_text bytes = read_by_token text_in bytes

@@ -2,6 +2,7 @@
 
 pub mod answer;
 mod filling;
+mod line;
 mod reader;
 pub mod request;
 pub mod template;

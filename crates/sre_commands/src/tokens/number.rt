@@ -1,6 +1,6 @@
 //! Numbers in a request, and how they are read.
 
-ghost use Rattle.std.specs.Prelude.{◌≡◌, ℕ, ◌^◌, ◌<◌, ◌≤◌, slice_index, suc, length, List, [], ◌∷◌, IfSome, IfNone, IsTrue, ◌↔◌, ◌⊎◌};
+ghost use Rattle.std.specs.Prelude.{◌≡◌, ◌≢◌, ◌↔◌, ◌<◌, ◌^◌, ℕ, length, suc, IfSome, IfNone, IsTrue};
 ghost use Rattle.std.specs.Fmt.{decimal};
 ghost use Rattle.py_base.specs.Reading.{read_of, read_as};
 ghost use Rattle.sre_commands.specs.Error.{Meets};
@@ -13,7 +13,7 @@ use std::alloc::Global;
 // The number below 2 ^ 64 whose decimal these bytes are.
 fn number_of(bytes: &[u8]) -> Option<u64>
     ensures found { IfSome result (λ n. bytes.now ≡ decimal n) }
-    ensures none { IfNone result ((n : ℕ) → n < 2 ^ 64 → bytes.now ≡ decimal n → ⊥) }
+    ensures none { IfNone result ((n : ℕ) → n < 2 ^ 64 → bytes.now ≢ decimal n) }
 {
     if !begins_as_decimal(bytes) {
         return None;
@@ -26,8 +26,7 @@ fn number_of(bytes: &[u8]) -> Option<u64>
 
 // Whether these bytes are `0`, or begin with another digit.
 fn begins_as_decimal(bytes: &[u8]) -> bool
-    ensures { let first = slice_index bytes.now 0 in
-        IsTrue result ↔ ((bytes.now ≡ 48 ∷ []) ⊎ ((48 < first) × (first ≤ 57))) }
+    ensures { IsTrue result ↔ spec.BeginsAsDecimal bytes.now }
 {
     matches!(bytes, [b'0'] | [b'1'..=b'9', ..])
 }
@@ -35,7 +34,7 @@ fn begins_as_decimal(bytes: &[u8]) -> bool
 // The number below 2 ^ 32 whose decimal these bytes are.
 fn word_of(bytes: &[u8]) -> Option<u32>
     ensures found { IfSome result (λ n. bytes.now ≡ decimal n) }
-    ensures none { IfNone result ((n : ℕ) → n < 2 ^ 32 → bytes.now ≡ decimal n → ⊥) }
+    ensures none { IfNone result ((n : ℕ) → n < 2 ^ 32 → bytes.now ≢ decimal n) }
 {
     u32::try_from(number_of(bytes)?).ok()
 }
@@ -46,7 +45,7 @@ pub(crate) fn read_number(bytes: &[u8]) -> Read<u64>
     let (token, rest) = read_token(bytes);
     match number_of(token) {
         Some(number) => Ok((number, rest)),
-        None => Err(ParseError::Malformed),
+        None => Err(ParseError::NoRequest),
     }
 }
 
@@ -56,7 +55,7 @@ fn read_word(bytes: &[u8]) -> Read<u32>
     let (token, rest) = read_token(bytes);
     match word_of(token) {
         Some(word) => Ok((word, rest)),
-        None => Err(ParseError::Malformed),
+        None => Err(ParseError::NoRequest),
     }
 }
 
@@ -82,7 +81,7 @@ pub(crate) fn read_group(groups: usize, bytes: &[u8]) -> Read<usize>
     let (number, rest) = read_number(rest)?;
     let number = number as usize;
     if number > groups {
-        return Err(ParseError::Malformed);
+        return Err(ParseError::NoRequest);
     }
     Ok((number, rest))
 }

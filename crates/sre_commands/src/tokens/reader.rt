@@ -1,15 +1,16 @@
 //! How the next bytes of a request are read: what has to come, and a token.
 
-ghost use Rattle.std.specs.Prelude.{◌≡◌, Ok, drop, length, unwrap_or};
-ghost use Rattle.std.specs.List.{position};
+ghost use Rattle.std.specs.Prelude.{◌≡◌, Ok, drop};
+ghost use Rattle.std.specs.List.{position_or_len};
 ghost use Rattle.py_base.specs.Reading as base;
 ghost use Rattle.py_base.specs.Reading.{read_of};
 ghost use Rattle.sre_commands.specs.Error.{Meets};
 ghost use Rattle.sre_commands.specs.Tokens.Reader as spec;
 
 use crate::error::ParseError;
+use memchr::memchr2;
 
-/// What is read from the front of the bytes, and the bytes that are left.
+/// What is read of the bytes, and the bytes that are left.
 pub(crate) type Read<'b, T> = Result<(T, &'b [u8]), ParseError>;
 
 pub(crate) fn read_past<'b>(bytes: &'b [u8], name: &[u8]) -> Read<'b, ()>
@@ -17,7 +18,7 @@ pub(crate) fn read_past<'b>(bytes: &'b [u8], name: &[u8]) -> Read<'b, ()>
 {
     match bytes.strip_prefix(name) {
         Some(rest) => Ok(((), rest)),
-        None => Err(ParseError::Malformed),
+        None => Err(ParseError::NoRequest),
     }
 }
 
@@ -43,16 +44,13 @@ pub(crate) fn after_next(bytes: &[u8]) -> &[u8]
 
 // How long the next token is.
 fn token_length(bytes: &[u8]) -> usize
-    ensures { result ≡ unwrap_or (position spec.is_end bytes.now) (length bytes.now) }
+    ensures { result ≡ position_or_len spec.is_end bytes.now }
 {
-    bytes
-        .iter()
-        .position(|byte| *byte == b' ' || *byte == b'\n')
-        .unwrap_or(bytes.len())
+    memchr2(b' ', b'\n', bytes).unwrap_or(bytes.len())
 }
 
 pub(crate) fn read_token(bytes: &[u8]) -> (&[u8], &[u8])
     ensures { spec.read_token bytes.now ≡ Ok (result.0.now, result.1.now) }
 {
-    bytes.split_at(token_length(bytes).min(bytes.len()))
+    bytes.split_at(token_length(bytes))
 }

@@ -1,8 +1,8 @@
 -- How a request is read.
 use Rattle.std.specs.Prelude.{◌==◌, ℕ, suc, if◌then◌else◌, List, ◌++◌, codes, length, Result, Ok, Err}
-use Rattle.sre_match.specs.Filling.{Replacement}
+use Rattle.sre_commands.specs.Commands.Sub.Filling.{Replacement}
 use Rattle.py_base.specs.Reading.{◌and_then◌}
-use Rattle.sre_commands.specs.Error.{Read, malformed}
+use Rattle.sre_commands.specs.Error.{Read, no_request}
 use Rattle.sre_commands.specs.declared.error.ParseError.{ParseError}
 use Rattle.sre_commands.specs.Tokens.Reader.{read_past}
 use Rattle.sre_commands.specs.Tokens.Number.{read_number, read_words}
@@ -35,11 +35,21 @@ read_lines bytes =
     read_line (codes "limit ") read_number rest and_then λ limit rest.
     read_line (codes "list") (read_template code.groups) rest and_then λ template rest.
     read_line (codes "subject ") read_text rest and_then λ subject rest.
-    Ok (record { pattern = code.pattern; words = code.words; groups = code.groups; limit = limit; template = template; subject = subject }, rest)
+    Ok (
+      record {
+        pattern = code.pattern;
+        words = code.words;
+        groups = code.groups;
+        limit = limit;
+        template = template;
+        subject = subject;
+      },
+      rest,
+    )
 
 -- all of the bytes
 abbrev pub whole : {A : Type 0} → Read A → Result A ParseError
-whole (Ok r) = if length r.1 == 0 then Ok r.0 else malformed
+whole (Ok r) = if length r.1 == 0 then Ok r.0 else no_request
 whole (Err e) = Err e
 
 abbrev pub read_request : List ℕ → Result Request ParseError

@@ -2,14 +2,16 @@
 use Rattle.std.specs.Prelude.{◌≡◌, ℕ, ◌<◌, ◌^◌, List, ◌++◌, All, codes, true}
 use Rattle.std.specs.Fmt.{decimal}
 use Rattle.std.specs.Str.{all_scalars}
-use Rattle.sre_match.specs.Filling.{Replacement}
+use Rattle.sre_commands.specs.Commands.Sub.Filling.{Replacement}
 use Rattle.sre_commands.specs.Tokens.Number.{numbers}
 use Rattle.sre_commands.specs.Tokens.Text.{token}
 use Rattle.sre_commands.specs.Commands.Sub.Template.{IsTemplate, template_tokens, replacement_of}
 use Rattle.sre_commands.specs.declared.commands.sub.reader.Code.{Code}
 use Rattle.sre_commands.specs.declared.commands.sub.request.Substitution.{Substitution}
 
--- a pattern, the code words that it was compiled to, how many groups it has, how many spans are replaced at most (0 is no limit), the template that is filled for each, and the subject; texts are lists of code points
+-- a pattern, the code words that it was compiled to, how many groups it has, how many spans are
+-- replaced at most (0 is no limit), the template that is filled for each, and the subject; texts
+-- are lists of code points
 pub record Request : Type 0 where
   pub pattern : List ℕ
   pub words : List ℕ
@@ -41,7 +43,7 @@ text_of r =
     ++ (line (codes "list") (template_tokens r.template)
     ++ line (codes "subject ") (token r.subject)))))
 
--- what a request in memory stands for
+-- the request that a value in memory is
 abbrev pub request_of : Substitution → Request
 request_of a = record {
   pattern = a.pattern.items;

@@ -2,9 +2,9 @@
 use Rattle.std.specs.Prelude.{◌≡◌, ℕ, zero, suc, ◌≤◌, if◌then◌else◌, List, [], ◌∷◌, ◌++◌, All, codes, drop, length, map, true, Ok}
 use Rattle.std.specs.List.{flat_map}
 use Rattle.std.specs.Str.{all_scalars}
-use Rattle.sre_match.specs.Filling.{Replacement}
+use Rattle.sre_commands.specs.Commands.Sub.Filling.{Replacement}
 use Rattle.py_base.specs.Reading.{◌and_then◌, is_next}
-use Rattle.sre_commands.specs.Error.{Read, malformed}
+use Rattle.sre_commands.specs.Error.{Read, no_request}
 use Rattle.sre_commands.specs.Tokens.Number.{group_token, read_group}
 use Rattle.sre_commands.specs.Tokens.Reader.{read_past}
 use Rattle.sre_commands.specs.Tokens.Text.{token, read_text}
@@ -22,13 +22,14 @@ pub record IsTemplate (groups : ℕ) (template : Replacement) : Type 0 where
 
 -- the tokens of pairs, with a space before each
 abbrev pub pair_tokens : List (ℕ × List ℕ) → List ℕ
-pair_tokens pairs = flat_map (λ pair. codes " " ++ (group_token pair.0 ++ (codes " " ++ token pair.1))) pairs
+pair_tokens pairs =
+    flat_map (λ pair. codes " " ++ (group_token pair.0 ++ (codes " " ++ token pair.1))) pairs
 
 -- the tokens of a template, with a space before each
 abbrev pub template_tokens : Replacement → List ℕ
 template_tokens template = codes " " ++ (token template.head ++ pair_tokens template.pairs)
 
--- what a template in memory stands for
+-- the template that a value in memory is
 abbrev pub pair_of : Pair → ℕ × List ℕ
 pair_of p = (p.group, p.literal.items)
 
@@ -43,11 +44,13 @@ read_pair groups bytes =
     read_text rest and_then λ literal rest.
     Ok ((group, literal), rest)
 
--- pairs with a space before each, as many as there are: so many spaces at most
+-- pairs with a space (32) before each, as many as there are: so many spaces at most
 abbrev pub read_pairs : ℕ → ℕ → List ℕ → Read (List (ℕ × List ℕ))
-read_pairs groups zero bytes = malformed
+read_pairs groups zero bytes = no_request
 read_pairs groups (suc n) bytes =
-    if is_next 32 bytes then (read_pair groups (drop 1 bytes) and_then λ pair rest. read_pairs groups n rest and_then λ pairs end. Ok (pair ∷ pairs, end))
+    if is_next 32 bytes
+    then (read_pair groups (drop 1 bytes) and_then λ pair rest.
+    read_pairs groups n rest and_then λ pairs end. Ok (pair ∷ pairs, end))
     else Ok ([], bytes)
 
 abbrev pub read_template : ℕ → List ℕ → Read Replacement

@@ -4,12 +4,13 @@ ghost use Rattle.std.specs.Prelude.{◌≡◌, ◌++◌, ◌+◌, List, ℕ, fal
 ghost use Rattle.std.specs.Str.{all_scalars};
 ghost use Rattle.sre_match.specs.Matches.{if_found, spans};
 ghost use Rattle.sre_match.specs.Search.{start_after, walk_next};
-ghost use Rattle.sre_match.specs.Filling.{result_of};
+ghost use Rattle.sre_commands.specs.Commands.Sub.Filling.{result_of};
 ghost use Rattle.sre_commands.specs.Commands.Sub.Request.{IsRequest, request_of};
 ghost use Rattle.sre_commands.specs.Commands.Sub.Template.{replacement_of};
 ghost use Rattle.sre_commands.specs.Commands.Sub.Answer.{answer_of, spans_of_request, is_reached, up_to};
 
 use super::filling::fill;
+use super::line::answer_line;
 use super::request::Substitution;
 use py_base::Steps;
 use sre_code::Checked;
@@ -94,13 +95,12 @@ pub fn answer<L: Ledger>(
     asked: &Substitution,
     code: &Checked,
     steps: &mut Steps<L>,
-) -> Result<String, MatchError>
+) -> Result<Vec<u8>, MatchError>
     requires { IsRequest (request_of asked.now) }
     ensures { IfOk result (λ line.
-        string_bytes line ≡ answer_of (request_of asked.now) code.now.tree) }
+        line.items ≡ answer_of (request_of asked.now) code.now.tree) }
 {
     let (units, count) = replaced(alloc, asked, code, steps)?;
     let text = string_of(alloc, &units)?;
-    let digits = hex::encode(alloc, text.as_bytes())?;
-    Ok(format!(in alloc; "t{digits} {count}\n")?)
+    Ok(answer_line(alloc, &text, count)?)
 }

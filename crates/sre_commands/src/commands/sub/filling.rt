@@ -1,7 +1,7 @@
 //! A replacement template, filled from a span's groups.
 
 ghost use Rattle.std.specs.Prelude.{◌≡◌, ◌++◌, OnOk};
-ghost use Rattle.sre_match.specs.Filling.{fill, group_span, text_between};
+ghost use Rattle.sre_commands.specs.Commands.Sub.Filling.{fill, group_span, text_between};
 ghost use Rattle.sre_commands.specs.Commands.Sub.Template.{replacement_of};
 
 use super::template::Template;

@@ -107,7 +107,7 @@ pub(crate) fn read_request(alloc: Global, bytes: &[u8]) -> Result<Substitution, 
 {
     let (asked, rest) = read_lines(alloc, bytes)?;
     if !rest.is_empty() {
-        return Err(ParseError::Malformed);
+        return Err(ParseError::NoRequest);
     }
     Ok(asked)
 }

@@ -1,6 +1,6 @@
 //! A request of substitution, and how it is read from bytes.
 
-ghost use Rattle.std.specs.Prelude.{◌≡◌, IfOk};
+ghost use Rattle.std.specs.Prelude.{◌≡◌, ◌≢◌, IfOk};
 ghost use Rattle.sre_commands.specs.Commands.Sub.Request.{Request, IsRequest, text_of, request_of};
 
 use super::reader::read_request;
@@ -24,8 +24,8 @@ pub struct Substitution {
 pub fn parse(alloc: Global, bytes: &[u8]) -> Result<Substitution, ParseError>
     ensures spelled { IfOk result (λ a. bytes.now ≡ text_of (request_of a)) }
     ensures request { IfOk result (λ a. IsRequest (request_of a)) }
-    ensures malformed { result ≡ Err ParseError.Malformed → (r : Request) → IsRequest r
-        → bytes.now ≡ text_of r → ⊥ }
+    ensures no_request { result ≡ Err ParseError.NoRequest → (r : Request) → IsRequest r
+        → bytes.now ≢ text_of r }
 {
     read_request(alloc, bytes)
 }

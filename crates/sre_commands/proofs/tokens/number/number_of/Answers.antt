@@ -3,7 +3,8 @@ use Rattle.std.specs.Fmt.{decimal}
 use Rattle.std.proofs.lemmas.Bool.{both_ways}
 use Rattle.std.proofs.lemmas.Fmt.{IsAscii-decimal}
 use Rattle.std.proofs.lemmas.Str.{IsUtf8-from_ascii}
-use Rattle.sre_commands.proofs.DecimalLemmas.{BeginsAsDecimal, decimal_begins, parsed_found, parsed_none}
+use Rattle.sre_commands.specs.Tokens.Number.{BeginsAsDecimal}
+use Rattle.sre_commands.proofs.DecimalLemmas.{decimal_begins, parsed_found, parsed_none}
 use Rattle.sre_commands.proofs.tokens.number.number_of.Goals as goal
 
 pub returns-then-not-begins_as_decimal-clause-none : goal.returns-then-not-begins_as_decimal-clause-none

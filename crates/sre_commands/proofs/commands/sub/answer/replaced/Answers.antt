@@ -3,7 +3,7 @@ use Rattle.std.specs.Prelude.{slice_range}
 use Rattle.sre_commands.proofs.StreamLemmas.{rest_whole}
 use Rattle.sre_match.specs.Matches.{Span}
 use Rattle.sre_match.specs.Search.{Search}
-use Rattle.sre_match.specs.Filling.{fill}
+use Rattle.sre_commands.specs.Commands.Sub.Filling.{fill}
 use Rattle.sre_commands.specs.Commands.Sub.Template.{replacement_of}
 use Rattle.sre_commands.proofs.WalkLemmas.{copied_start, copied_more, copied_end, follows_is, falls, over_same, moved_same, standing_start, subject_start}
 use Rattle.sre_commands.proofs.commands.sub.answer.replaced.Goals as goal

@@ -1,5 +1,5 @@
 use Rattle.std.proofs.Common.{◌≡◌, ◌++◌, map, drop}
-use Rattle.sre_match.specs.Filling.{fill, fill_pairs}
+use Rattle.sre_commands.specs.Commands.Sub.Filling.{fill, fill_pairs}
 use Rattle.sre_commands.specs.Commands.Sub.Template.{pair_of, replacement_of}
 use Rattle.sre_commands.proofs.commands.sub.filling.fill.Given as goal
 

@@ -1,6 +1,6 @@
 use Rattle.std.proofs.Common.{◌≡◌, sym, Ok, Err, Result, IfOk, List, ℕ}
 use Rattle.sre_commands.specs.declared.error.ParseError.{ParseError}
-use Rattle.sre_commands.specs.declared.error.ParseError.TheVariants.{NoMemory, Malformed}
+use Rattle.sre_commands.specs.declared.error.ParseError.TheVariants.{NoMemory, NoRequest}
 use Rattle.sre_commands.specs.declared.commands.sub.request.Substitution.{Substitution}
 use Rattle.sre_commands.specs.Error.{Meets}
 use Rattle.sre_commands.specs.Commands.Sub.Request.{Request, IsRequest, text_of, request_of}
@@ -17,10 +17,10 @@ is_request : (bytes : List ℕ) (r : Result Substitution ParseError) → Meets (
 is_request bytes (Ok a) m = (request_is bytes (request_of a) (sym m)).0
 is_request bytes (Err e) m = tt
 
-is_none : (bytes : List ℕ) (r : Result Substitution ParseError) → Meets (read_request bytes) (result_as request_of r) → r ≡ Err Malformed → (q : Request) → IsRequest q → bytes ≡ text_of q → ⊥
+is_none : (bytes : List ℕ) (r : Result Substitution ParseError) → Meets (read_request bytes) (result_as request_of r) → r ≡ Err NoRequest → (q : Request) → IsRequest q → bytes ≡ text_of q → ⊥
 is_none bytes (Ok a) m e q h is = cc e
 is_none bytes (Err NoMemory) m e q h is = cc e
-is_none bytes (Err Malformed) m e q h is = let again = request_again bytes q h is in cc (m, again)
+is_none bytes (Err NoRequest) m e q h is = let again = request_again bytes q h is in cc (m, again)
 
 pub returns-clause-spelled : goal.returns-clause-spelled
 returns-clause-spelled c = is_spelled c.args.bytes.now c.read_request.result c.read_request.ensures
@@ -28,5 +28,5 @@ returns-clause-spelled c = is_spelled c.args.bytes.now c.read_request.result c.r
 pub returns-clause-request : goal.returns-clause-request
 returns-clause-request c = is_request c.args.bytes.now c.read_request.result c.read_request.ensures
 
-pub returns-clause-malformed : goal.returns-clause-malformed
-returns-clause-malformed c = is_none c.args.bytes.now c.read_request.result c.read_request.ensures
+pub returns-clause-no_request : goal.returns-clause-no_request
+returns-clause-no_request c = is_none c.args.bytes.now c.read_request.result c.read_request.ensures

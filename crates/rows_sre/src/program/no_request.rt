@@ -29,8 +29,8 @@ const DAMAGE: [(&str, &str); 17] = [
 fn damaged(rt: HostRuntime) -> Result<(), Fail> {
     for (from, to) in &DAMAGE {
         let request = FIRST.replacen(rt.alloc(), *from, to, 1)?;
-        let refused = is_answered(rt.alloc(), request.as_bytes(), 3, b"");
-        assert!(rt; refused, "at {request}");
+        let is_no_request = is_answered(rt.alloc(), request.as_bytes(), 3, b"");
+        assert!(rt; is_no_request, "at {request}");
     }
     Ok(())
 }
@@ -39,8 +39,8 @@ fn damaged(rt: HostRuntime) -> Result<(), Fail> {
 fn cut_off(rt: HostRuntime) {
     let bytes = FIRST.as_bytes();
     for end in 0..bytes.len() {
-        let refused = is_answered(rt.alloc(), &bytes[..end], 3, b"");
-        assert!(rt; refused, "cut at {end}");
+        let is_no_request = is_answered(rt.alloc(), &bytes[..end], 3, b"");
+        assert!(rt; is_no_request, "cut at {end}");
     }
 }
 
