@@ -1,12 +1,31 @@
 //! Tables: a call a line, with its answer.
 
+ghost use Rattle.std.specs.Prelude.{◌≡◌, OnOk};
+ghost use Rattle.std.specs.Str.Lines.{lines};
+ghost use Rattle.std.specs.Vec.{vec_items};
+ghost use Rattle.call_tables.specs.Lines.{AddsLine, AddsLines};
+ghost use Rattle.call_tables.specs.Results.{items_of};
+
 use crate::calls::{forms, numbers, pieces, searches, slices, values};
-use crate::fault::Fault;
 use crate::reading::call_of;
 use crate::report::Report;
 use crate::results::{Outcome, written};
 use crate::token::Token;
 use std::alloc::{AllocError, Global};
+
+/// The calls of a table.
+pub trait Calls {
+    ghost use Rattle.std.specs.Prelude.{List, ℕ, Result};
+    ghost use Rattle.call_tables.specs.declared.fault.Fault.{Fault};
+    ghost use Rattle.call_tables.specs.declared.token.Token.{Token};
+
+    /// What the call of a name may give on these arguments.
+    ghost may_give: { Self → List ℕ → List Token → Result (List Token) Fault → Type 0 };
+
+    /// What the call of this name gives on these arguments.
+    fn answer(&self, alloc: Global, name: &str, arguments: &[Token]) -> Outcome
+        ensures { may_give self.now name.now arguments.now (items_of vec_items result) };
+}
 
 /// Which calls a table holds.
 #[derive(Clone, Copy, Debug, PartialEq, Eq)]
@@ -19,8 +38,10 @@ pub enum Table {
     Values,
 }
 
-impl Table {
-    fn answer(self, alloc: Global, name: &str, arguments: &[Token]) -> Outcome {
+impl Calls for Table {
+    ghost may_give = { λ _ _ _ _. Unit {0} };
+
+    fn answer(&self, alloc: Global, name: &str, arguments: &[Token]) -> Outcome {
         match self {
             Table::Searches => searches::answer(alloc, name, arguments),
             Table::Pieces => pieces::answer(alloc, name, arguments),
@@ -32,12 +53,6 @@ impl Table {
     }
 }
 
-// The call of a text, made.
-fn outcome_of(alloc: Global, table: Table, text: &str) -> Outcome {
-    let call = call_of(alloc, text)?;
-    table.answer(alloc, call.name, &call.arguments)
-}
-
 // The name of a call: what is before the first space.
 fn name_of(call: &str) -> &str {
     match call.split_once(' ') {
@@ -47,13 +62,16 @@ fn name_of(call: &str) -> &str {
 }
 
 /// Makes each call of a table, and adds it to the report.
-pub fn add_table(
+pub fn add_table<C: Calls>(
     alloc: Global,
     report: &mut Report,
     file: &str,
-    table: Table,
+    table: &C,
     text: &str,
-) -> Result<(), AllocError> {
+) -> Result<(), AllocError>
+    ensures { OnOk result
+        (AddsLines (C.may_give table.now) (lines text.now) report.old.all report.new.all) }
+{
     report.begin(file)?;
     for line in text.lines() {
         add_line(alloc, report, table, line)?;
@@ -61,16 +79,31 @@ pub fn add_table(
     Ok(())
 }
 
-fn add_line(
+fn add_line<C: Calls>(
     alloc: Global,
     report: &mut Report,
-    table: Table,
+    table: &C,
     line: &str,
-) -> Result<(), AllocError> {
-    let Some((call, wanted)) = line.split_once(" =") else {
-        return report.add("(no call)", line, "", " nothing: no line of a table");
+) -> Result<(), AllocError>
+    ensures { OnOk result
+        (AddsLine (C.may_give table.now) line.now report.old.all report.new.all) }
+{
+    let Some((text, wanted)) = line.split_once(" =") else {
+        return report.differ("(no call)", line, " nothing: no line of a table");
     };
-    let outcome = outcome_of(alloc, table, call);
-    let given = written(alloc, &outcome)?;
-    report.add(name_of(call), line, wanted, given.as_str())
+    match call_of(alloc, text) {
+        Ok(call) => {
+            let outcome = table.answer(alloc, call.name, &call.arguments);
+            let given = written(alloc, &outcome)?;
+            if given.as_str() == wanted {
+                report.agree(call.name)
+            } else {
+                report.differ(call.name, line, given.as_str())
+            }
+        }
+        Err(fault) => {
+            let given = written(alloc, &Err(fault))?;
+            report.differ(name_of(text), line, given.as_str())
+        }
+    }
 }

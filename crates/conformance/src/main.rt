@@ -19,7 +19,7 @@ fn main(rt: HostRuntime) -> io::Result<ExitCode> {
     let mut report = Report::new(rt.alloc());
     for (file, table) in TABLES {
         let text = fs::read_to_string(&rt, file)?;
-        add_table(rt.alloc(), &mut report, file, table, &text)?;
+        add_table(rt.alloc(), &mut report, file, &table, &text)?;
     }
     report.end()?;
     rt.print(report.text())?;
