@@ -1,14 +1,14 @@
 //! The token at the front of a text. There is one function for each construct, named as it is, and
 //! none calls itself.
 
-ghost use Rattle.std.specs.Prelude.{◌≡◌, IfOk};
+ghost use Rattle.std.specs.Prelude.{◌≡◌};
 ghost use Rattle.py_base.specs.Reading.{find};
 ghost use Rattle.re_tree.specs.Characters.{if_flag};
 ghost use Rattle.re_tree.specs.Reading as spec;
 ghost use Rattle.re_tree.specs.Tables.{signs};
 ghost use Rattle.re_tree.specs.Tokens.{anchor_token};
 ghost use Rattle.re_tree.specs.TextView.{test_of};
-ghost use Rattle.re_parse.specs.TokenView.{token_of, found_of};
+ghost use Rattle.re_parse.specs.TokenView.{token_of, Reads};
 
 mod characters;
 mod counts;
@@ -49,7 +49,7 @@ fn line_anchor(flags: TextFlags, whole: u32, each: u32) -> Token
 
 // The token that begins with this character.
 fn sign(alloc: Global, flags: TextFlags, begin: usize, c: char, rest: &[char]) -> Found
-    ensures { IfOk result (λ r. found_of r ≡ spec.sign_token (find signs c) flags begin c rest.now) }
+    ensures { Reads (spec.sign_token (find signs c) flags begin c rest.now) result }
 {
     match c {
         '\\' => escape(alloc, flags, begin, rest),
@@ -68,11 +68,11 @@ fn sign(alloc: Global, flags: TextFlags, begin: usize, c: char, rest: &[char]) -
     }
 }
 
-/// The token at the front of a text, whose first character is at the place `begin` of the whole, and
-/// what is left after it. There is none where the text is at its end, or where the grammar has no
-/// token that it begins with.
+/// The token at the front of a text, whose first character is at the place `begin` of the whole,
+/// and what is left after it. There is none where the text is at its end, or where the grammar has
+/// no token that it begins with.
 pub fn next_token(alloc: Global, flags: TextFlags, begin: usize, text: &[char]) -> Found
-    ensures { IfOk result (λ r. found_of r ≡ spec.next_token flags begin text.now) }
+    ensures { Reads (spec.next_token flags begin text.now) result }
 {
     match text {
         [] => Ok(None),

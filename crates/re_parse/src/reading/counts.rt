@@ -1,13 +1,12 @@
 //! Counts: their bounds, by a sign or in braces, and what follows these.
 
-ghost use Rattle.std.specs.Prelude.{◌≡◌, ℕ, List, Some, IfOk};
+ghost use Rattle.std.specs.Prelude.{◌≡◌, Some, IfOk};
 ghost use Rattle.std.specs.Option.{option_map};
 ghost use Rattle.py_base.specs.Reading.{find};
 ghost use Rattle.re_tree.specs.Grammar.{value, greatest_of};
 ghost use Rattle.re_tree.specs.Reading as spec;
 ghost use Rattle.re_tree.specs.Tables.{signs};
-ghost use Rattle.re_tree.specs.Tokens.{Token as PlainToken};
-ghost use Rattle.re_parse.specs.TokenView.{token_of, found_of, bounds_of};
+ghost use Rattle.re_parse.specs.TokenView.{token_and_rest, counted_by, bounds_after, bounds_of, Reads};
 
 use crate::number::Number;
 use crate::reading::Found;
@@ -41,7 +40,7 @@ fn greatest(alloc: Global, digits: &[char]) -> Result<Option<Number>, AllocError
 
 // A count whose bounds are read.
 fn counted(begin: usize, least: Number, most: Option<Number>, rest: &[char]) -> (Token, &[char])
-    ensures { ◌≡◌ {A = PlainToken × List ℕ} (token_of result.0, result.1.now) (spec.with_mode begin least most rest.now) }
+    ensures { token_and_rest result ≡ spec.with_mode begin least most rest.now }
 {
     match rest {
         ['?', more @ ..] => (Token::Count(begin, least, most, CountMode::Lazy), more),
@@ -61,7 +60,7 @@ pub(crate) fn sign_count<'t>(
     most: &[char],
     rest: &'t [char],
 ) -> Found<'t>
-    ensures { IfOk result (λ r. found_of r ≡ Some (spec.with_mode begin (value least.now) (greatest_of most.now) rest.now)) }
+    ensures { Reads (counted_by begin least.now most.now rest.now) result }
 {
     let least = Number::from_digits(alloc, least)?;
     let most = greatest(alloc, most)?;
@@ -87,7 +86,7 @@ fn exact<'t>(alloc: Global, least: &[char], rest: &'t [char]) -> Bounds<'t>
 
 // As `{n,m}`, after the comma.
 fn between<'t>(alloc: Global, least: &[char], text: &'t [char]) -> Bounds<'t>
-    ensures { IfOk result (λ r. bounds_of r ≡ spec.most_at (value least.now) (greatest_of (spec.digits_of text.now)) (spec.after_digits text.now)) }
+    ensures { IfOk result (λ r. bounds_of r ≡ bounds_after least.now text.now) }
 {
     let (most, rest) = digits(text);
     match rest {
@@ -114,7 +113,7 @@ fn bounds(alloc: Global, text: &[char]) -> Bounds
 
 // After a `{`, which is itself where no count begins.
 pub(crate) fn brace(alloc: Global, begin: usize, text: &[char]) -> Found
-    ensures { IfOk result (λ r. found_of r ≡ Some (spec.brace_token begin text.now (spec.read_bounds text.now))) }
+    ensures { Reads (Some (spec.brace_token begin text.now (spec.read_bounds text.now))) result }
 {
     match bounds(alloc, text)? {
         None => Ok(Some((Token::Unit(UnitTest::Literal('{')), text))),

@@ -12,7 +12,7 @@ ghost use Rattle.re_tree.specs.Reading as spec;
 ghost use Rattle.re_tree.specs.Tables.{letters};
 ghost use Rattle.re_tree.specs.TextView.{test_of};
 ghost use Rattle.re_tree.specs.Tokens.{reference_token};
-ghost use Rattle.re_parse.specs.TokenView.{token_of, found_of};
+ghost use Rattle.re_parse.specs.TokenView.{token_of, Reads};
 
 use crate::number::Number;
 use crate::reading::Found;
@@ -38,7 +38,7 @@ fn reference(alloc: Global, begin: usize, digits: &[char]) -> Result<Token, Allo
 
 // A back reference after its first digit.
 fn reference_from(alloc: Global, begin: usize, first: char, rest: &[char]) -> Found
-    ensures { IfOk result (λ r. found_of r ≡ spec.number_token begin first rest.now) }
+    ensures { Reads (spec.number_token begin first rest.now) result }
 {
     match rest {
         [second, after @ ..] if is_digit(*second) => {
@@ -62,7 +62,7 @@ fn begins_octal(text: &[char]) -> bool
 
 // After the backslash and a character that is no letter of the table.
 fn other(alloc: Global, flags: TextFlags, begin: usize, l: char, rest: &[char]) -> Found
-    ensures { IfOk result (λ r. found_of r ≡ spec.letter_token None flags begin l rest.now) }
+    ensures { Reads (spec.letter_token None flags begin l rest.now) result }
 {
     if is_first_digit(l) {
         return reference_from(alloc, begin, l, rest);
@@ -84,7 +84,7 @@ fn category(alloc: Global, k: u32) -> Result<UnitTest, AllocError>
 
 // After the backslash and this character.
 fn escaped(alloc: Global, flags: TextFlags, begin: usize, l: char, rest: &[char]) -> Found
-    ensures { IfOk result (λ r. found_of r ≡ spec.letter_token (find letters l) flags begin l rest.now) }
+    ensures { Reads (spec.letter_token (find letters l) flags begin l rest.now) result }
 {
     match letter_at(l) {
         None => other(alloc, flags, begin, l, rest),
@@ -105,7 +105,7 @@ fn escaped(alloc: Global, flags: TextFlags, begin: usize, l: char, rest: &[char]
 
 // After a backslash.
 pub(crate) fn escape(alloc: Global, flags: TextFlags, begin: usize, text: &[char]) -> Found
-    ensures { IfOk result (λ r. found_of r ≡ spec.escape_token flags begin text.now) }
+    ensures { Reads (spec.escape_token flags begin text.now) result }
 {
     match text {
         [] => Ok(None),

@@ -1,11 +1,11 @@
 //! Opening parentheses, and what follows `(?`.
 
-ghost use Rattle.std.specs.Prelude.{◌≡◌, Some, IfOk};
+ghost use Rattle.std.specs.Prelude.{◌≡◌, Some};
 ghost use Rattle.py_base.specs.Reading.{find};
 ghost use Rattle.re_tree.specs.Reading as spec;
 ghost use Rattle.re_tree.specs.Tables.{extensions};
 ghost use Rattle.re_tree.specs.Tokens.{open_token};
-ghost use Rattle.re_parse.specs.TokenView.{opening_of, found_of};
+ghost use Rattle.re_parse.specs.TokenView.{opening_of, Reads};
 
 use crate::reading::Found;
 use crate::reading::names::{group, name, up_to};
@@ -14,14 +14,14 @@ use std::alloc::{AllocError, Global};
 
 // A token of an opening parenthesis.
 fn open(begin: usize, opening: Opening, rest: &[char]) -> Found
-    ensures { IfOk result (λ r. found_of r ≡ Some (open_token begin (opening_of opening), rest.now)) }
+    ensures { Reads (Some (open_token begin (opening_of opening), rest.now)) result }
 {
     Ok(Some((Token::Open(begin, opening), rest)))
 }
 
 // A lookbehind, after `(?<`.
 fn looking_back(begin: usize, text: &[char]) -> Found
-    ensures { IfOk result (λ r. found_of r ≡ spec.back_token begin text.now) }
+    ensures { Reads (spec.back_token begin text.now) result }
 {
     match text {
         ['=', rest @ ..] => open(begin, Opening::Looking(true, true), rest),
@@ -32,7 +32,7 @@ fn looking_back(begin: usize, text: &[char]) -> Found
 
 // A group with a name, after `(?P<`.
 fn named_group(alloc: Global, begin: usize, text: &[char]) -> Found
-    ensures { IfOk result (λ r. found_of r ≡ spec.named_opening begin (spec.up_to 62 text.now)) }
+    ensures { Reads (spec.named_opening begin (spec.up_to 62 text.now)) result }
 {
     match up_to('>', text) {
         None => Ok(None),
@@ -48,7 +48,7 @@ fn named_group(alloc: Global, begin: usize, text: &[char]) -> Found
 
 // A back reference by name, after `(?P=`.
 fn named_reference(alloc: Global, begin: usize, text: &[char]) -> Found
-    ensures { IfOk result (λ r. found_of r ≡ spec.named_reference begin (spec.up_to 41 text.now)) }
+    ensures { Reads (spec.named_reference begin (spec.up_to 41 text.now)) result }
 {
     match up_to(')', text) {
         None => Ok(None),
@@ -61,7 +61,7 @@ fn named_reference(alloc: Global, begin: usize, text: &[char]) -> Found
 
 // After `(?P`.
 fn named(alloc: Global, begin: usize, text: &[char]) -> Found
-    ensures { IfOk result (λ r. found_of r ≡ spec.name_token begin text.now) }
+    ensures { Reads (spec.name_token begin text.now) result }
 {
     match text {
         ['<', rest @ ..] => named_group(alloc, begin, rest),
@@ -72,7 +72,7 @@ fn named(alloc: Global, begin: usize, text: &[char]) -> Found
 
 // A conditional, after `(?(`.
 fn conditional(alloc: Global, begin: usize, text: &[char]) -> Found
-    ensures { IfOk result (λ r. found_of r ≡ spec.named_choice begin (spec.up_to 41 text.now)) }
+    ensures { Reads (spec.named_choice begin (spec.up_to 41 text.now)) result }
 {
     match up_to(')', text) {
         None => Ok(None),
@@ -82,7 +82,7 @@ fn conditional(alloc: Global, begin: usize, text: &[char]) -> Found
 
 // After `(?` and this character.
 fn extension(alloc: Global, begin: usize, c: char, rest: &[char]) -> Found
-    ensures { IfOk result (λ r. found_of r ≡ spec.extension_token (find extensions c) begin rest.now) }
+    ensures { Reads (spec.extension_token (find extensions c) begin rest.now) result }
 {
     match c {
         ':' => open(begin, Opening::Grouping, rest),
@@ -98,7 +98,7 @@ fn extension(alloc: Global, begin: usize, c: char, rest: &[char]) -> Found
 
 // After `(?`.
 fn extended(alloc: Global, begin: usize, text: &[char]) -> Found
-    ensures { IfOk result (λ r. found_of r ≡ spec.extended begin text.now) }
+    ensures { Reads (spec.extended begin text.now) result }
 {
     match text {
         [] => Ok(None),
@@ -108,7 +108,7 @@ fn extended(alloc: Global, begin: usize, text: &[char]) -> Found
 
 // After a `(`.
 pub(crate) fn opening(alloc: Global, begin: usize, text: &[char]) -> Found
-    ensures { IfOk result (λ r. found_of r ≡ spec.opening_token begin text.now) }
+    ensures { Reads (spec.opening_token begin text.now) result }
 {
     match text {
         ['?', rest @ ..] => extended(alloc, begin, rest),

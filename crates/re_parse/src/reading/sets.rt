@@ -7,7 +7,7 @@ ghost use Rattle.re_tree.specs.Characters.{first_is};
 ghost use Rattle.re_tree.specs.Reading as reading;
 ghost use Rattle.re_tree.specs.Sets as spec;
 ghost use Rattle.re_tree.specs.Tables.{letters};
-ghost use Rattle.re_parse.specs.TokenView.{rest_of, found_of};
+ghost use Rattle.re_parse.specs.TokenView.{rest_of, set_at, Reads};
 
 use crate::reading::Found;
 use crate::reading::characters::{hex, is_punctuation};
@@ -153,7 +153,7 @@ fn goes_on(first: bool, text: &[char]) -> bool
     first || !is_end(text)
 }
 
-// The items up to the `]` that ends them, of which there is at least one, and what is left after it.
+// The items up to the `]` that ends them, of which there is at least one, and what is left after.
 fn items(
     alloc: Global,
     ascii: bool,
@@ -179,7 +179,7 @@ fn items(
 
 // The items of a set after the `[` and perhaps a `^`.
 fn set(alloc: Global, ascii: bool, negated: bool, text: &[char]) -> Found
-    ensures { IfOk result (λ r. found_of r ≡ reading.set_token negated (spec.items_at (length text.now) ascii true text.now)) }
+    ensures { Reads (set_at ascii negated text.now) result }
 {
     match items(alloc, ascii, text)? {
         None => Ok(None),
@@ -189,7 +189,7 @@ fn set(alloc: Global, ascii: bool, negated: bool, text: &[char]) -> Found
 
 // After a `[`.
 pub(crate) fn bracket(alloc: Global, flags: TextFlags, text: &[char]) -> Found
-    ensures { IfOk result (λ r. found_of r ≡ reading.bracket_token flags text.now) }
+    ensures { Reads (reading.bracket_token flags text.now) result }
 {
     match text {
         [] => Ok(None),
