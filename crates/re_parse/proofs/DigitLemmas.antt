@@ -1,7 +1,7 @@
 -- What a loop over the digits at the front of a text has passed.
-use Rattle.std.proofs.Common.{◌≡◌, refl, sym, ◌∙◌, ap, ℕ, ◌+◌, ◌<◌, ◌≤◌, Bool, true, false, List, [], ◌∷◌, ◌++◌, take, drop, length, get_or, append-nil, append_assoc}
+use Rattle.std.proofs.Common.{◌≡◌, refl, sym, ◌∙◌, ap, ℕ, ◌+◌, ◌<◌, ◌≤◌, true, false, List, [], ◌∷◌, ◌++◌, take, drop, length, get_or, append-nil, append_assoc}
 use Rattle.std.specs.Prelude.{cond}
-use Rattle.std.proofs.lemmas.List.{take_more, drop_more, take_all, drop_all}
+use Rattle.std.proofs.lemmas.List.{take_more, drop_more, drop_all}
 use Rattle.re_tree.specs.Characters.{is_digit}
 use Rattle.re_tree.specs.Reading.{digits_of, after_digits}
 

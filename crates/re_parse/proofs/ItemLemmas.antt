@@ -1,10 +1,10 @@
 -- What the loop over the items of a set has left to read.
-use Rattle.std.proofs.Common.{◌≡◌, refl, sym, ◌∙◌, ap, ℕ, zero, suc, ◌+◌, ◌==◌, ◌<◌, ◌≤◌, Bool, true, false, not, List, [], ◌∷◌, ◌++◌, drop, length, append-nil, append_assoc, arith}
-use Rattle.std.specs.Prelude.{Option, Some, None, cond, ◌&&◌, ◌||◌}
+use Rattle.std.proofs.Common.{◌≡◌, refl, sym, ◌∙◌, ap, ℕ, zero, suc, ◌==◌, ◌<◌, ◌≤◌, Bool, true, false, not, List, [], ◌∷◌, ◌++◌, drop, length, append-nil, append_assoc, arith}
+use Rattle.std.specs.Prelude.{Some, None, cond, ◌&&◌, ◌||◌}
 use Rattle.std.specs.Option.{option_map}
 use Rattle.re_tree.specs.declared.unit.UnitItem.{UnitItem}
 use Rattle.re_tree.specs.Characters.{first_is}
-use Rattle.re_tree.specs.Sets.{Item, Items, item_at, put_item, item_then, items_at}
+use Rattle.re_tree.specs.Sets.{Items, item_at, put_item, item_then, items_at}
 
 abbrev pub with_items : List UnitItem → Items → Items
 with_items before o = option_map (λ x. (before ++ x.0, x.1)) o

@@ -1,5 +1,5 @@
 -- The plain token that a token in memory stands for.
-use Rattle.std.specs.Prelude.{◌≡◌, ℕ, Bool, true, List, length, Option, Some, None, Result, IfOk, String, chars, string_bytes}
+use Rattle.std.specs.Prelude.{◌≡◌, ℕ, Bool, true, List, length, Option, Some, Result, IfOk, String, chars, string_bytes}
 use Rattle.std.specs.Option.{option_map}
 use denote.Bor.{Bor}
 use Rattle.re_tree.specs.PlainText.{GroupName, numbered, named}

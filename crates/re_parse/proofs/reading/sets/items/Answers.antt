@@ -1,6 +1,5 @@
 use Rattle.std.proofs.Common.{◌≡◌, sym, ap, ◌∙◌, true, false}
-use Rattle.std.specs.Prelude.{Some, None, ◌||◌, not}
-use Rattle.re_tree.specs.Sets.{item_at}
+use Rattle.std.specs.Prelude.{◌||◌, not}
 use Rattle.re_tree.proofs.SetLemmas.{item_shorter}
 use Rattle.re_parse.specs.TokenView.{rest_of}
 use Rattle.re_parse.proofs.ItemLemmas.{ends, no_item, one_more, ended}
