@@ -1,0 +1,4 @@
+pub mod DigitLemmas
+pub mod HexLemmas
+pub mod ItemLemmas
+pub mod NameLemmas

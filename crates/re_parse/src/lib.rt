@@ -1,0 +1,10 @@
+//! Reading the text of a regular expression, a token at a time.
+#![tactic(auto)]
+
+mod number;
+mod reading;
+mod token;
+
+pub use number::Number;
+pub use reading::next_token;
+pub use token::{GroupName, Opening, Token};

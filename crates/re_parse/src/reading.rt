@@ -1,0 +1,81 @@
+//! The token at the front of a text. There is one function for each construct, named as it is, and
+//! none calls itself.
+
+ghost use Rattle.std.specs.Prelude.{◌≡◌};
+ghost use Rattle.py_base.specs.Reading.{find};
+ghost use Rattle.re_tree.specs.Characters.{if_flag};
+ghost use Rattle.re_tree.specs.Reading as spec;
+ghost use Rattle.re_tree.specs.Tables.{signs};
+ghost use Rattle.re_tree.specs.Tokens.{anchor_token};
+ghost use Rattle.re_tree.specs.TextView.{test_of};
+ghost use Rattle.re_parse.specs.TokenView.{token_of, Reads};
+
+mod characters;
+mod counts;
+mod escapes;
+mod letters;
+mod names;
+mod openings;
+mod sets;
+
+use crate::reading::counts::{brace, sign_count};
+use crate::reading::escapes::escape;
+use crate::reading::openings::opening;
+use crate::reading::sets::bracket;
+use crate::token::Token;
+use re_tree::{TextFlags, UnitTest};
+use std::alloc::{AllocError, Global};
+
+/// A token, where the grammar has one at the front of the text, and what is left after it.
+pub(crate) type Found<'t> = Result<Option<(Token, &'t [char])>, AllocError>;
+
+// What a dot is.
+fn dot(flags: TextFlags) -> UnitTest
+    ensures { test_of result ≡ spec.if_dotall flags.dotall }
+{
+    if flags.dotall {
+        UnitTest::AnyAll
+    } else {
+        UnitTest::Any
+    }
+}
+
+// An anchor, or the one with `multiline`.
+fn line_anchor(flags: TextFlags, whole: u32, each: u32) -> Token
+    ensures { token_of result ≡ anchor_token (if_flag flags.multiline each whole) }
+{
+    Token::Place(if flags.multiline { each } else { whole })
+}
+
+// The token that begins with this character.
+fn sign(alloc: Global, flags: TextFlags, begin: usize, c: char, rest: &[char]) -> Found
+    ensures { Reads (spec.sign_token (find signs c) flags begin c rest.now) result }
+{
+    match c {
+        '\\' => escape(alloc, flags, begin, rest),
+        '.' => Ok(Some((Token::Unit(dot(flags)), rest))),
+        '^' => Ok(Some((line_anchor(flags, 0, 1), rest))),
+        '$' => Ok(Some((line_anchor(flags, 5, 6), rest))),
+        '*' => sign_count(alloc, begin, &[], &[], rest),
+        '+' => sign_count(alloc, begin, &['1'], &[], rest),
+        '?' => sign_count(alloc, begin, &[], &['1'], rest),
+        '{' => brace(alloc, begin, rest),
+        '[' => bracket(alloc, flags, rest),
+        '(' => opening(alloc, begin, rest),
+        ')' => Ok(Some((Token::Close, rest))),
+        '|' => Ok(Some((Token::Bar, rest))),
+        _ => Ok(Some((Token::Unit(UnitTest::Literal(c)), rest))),
+    }
+}
+
+/// The token at the front of a text, whose first character is at the place `begin` of the whole,
+/// and what is left after it. There is none where the text is at its end, or where the grammar has
+/// no token that it begins with.
+pub fn next_token(alloc: Global, flags: TextFlags, begin: usize, text: &[char]) -> Found
+    ensures { Reads (spec.next_token flags begin text.now) result }
+{
+    match text {
+        [] => Ok(None),
+        [c, rest @ ..] => sign(alloc, flags, begin, *c, rest),
+    }
+}

@@ -1,0 +1,117 @@
+//! Opening parentheses, and what follows `(?`.
+
+ghost use Rattle.std.specs.Prelude.{◌≡◌, Some};
+ghost use Rattle.py_base.specs.Reading.{find};
+ghost use Rattle.re_tree.specs.Reading as spec;
+ghost use Rattle.re_tree.specs.Tables.{extensions};
+ghost use Rattle.re_tree.specs.Tokens.{open_token};
+ghost use Rattle.re_parse.specs.TokenView.{opening_of, Reads};
+
+use crate::reading::Found;
+use crate::reading::names::{group, name, up_to};
+use crate::token::{GroupName, Opening, Token};
+use std::alloc::{AllocError, Global};
+
+// A token of an opening parenthesis.
+fn open(begin: usize, opening: Opening, rest: &[char]) -> Found
+    ensures { Reads (Some (open_token begin (opening_of opening), rest.now)) result }
+{
+    Ok(Some((Token::Open(begin, opening), rest)))
+}
+
+// A lookbehind, after `(?<`.
+fn looking_back(begin: usize, text: &[char]) -> Found
+    ensures { Reads (spec.back_token begin text.now) result }
+{
+    match text {
+        ['=', rest @ ..] => open(begin, Opening::Looking(true, true), rest),
+        ['!', rest @ ..] => open(begin, Opening::Looking(false, true), rest),
+        _ => Ok(None),
+    }
+}
+
+// A group with a name, after `(?P<`.
+fn named_group(alloc: Global, begin: usize, text: &[char]) -> Found
+    ensures { Reads (spec.named_opening begin (spec.up_to 62 text.now)) result }
+{
+    match up_to('>', text) {
+        None => Ok(None),
+        Some((characters, rest)) => {
+            open(
+                begin,
+                Opening::Capturing(Some(name(alloc, characters)?)),
+                rest,
+            )
+        }
+    }
+}
+
+// A back reference by name, after `(?P=`.
+fn named_reference(alloc: Global, begin: usize, text: &[char]) -> Found
+    ensures { Reads (spec.named_reference begin (spec.up_to 41 text.now)) result }
+{
+    match up_to(')', text) {
+        None => Ok(None),
+        Some((characters, rest)) => {
+            let id = GroupName::Name(name(alloc, characters)?);
+            Ok(Some((Token::Reference(begin, id), rest)))
+        }
+    }
+}
+
+// After `(?P`.
+fn named(alloc: Global, begin: usize, text: &[char]) -> Found
+    ensures { Reads (spec.name_token begin text.now) result }
+{
+    match text {
+        ['<', rest @ ..] => named_group(alloc, begin, rest),
+        ['=', rest @ ..] => named_reference(alloc, begin, rest),
+        _ => Ok(None),
+    }
+}
+
+// A conditional, after `(?(`.
+fn conditional(alloc: Global, begin: usize, text: &[char]) -> Found
+    ensures { Reads (spec.named_choice begin (spec.up_to 41 text.now)) result }
+{
+    match up_to(')', text) {
+        None => Ok(None),
+        Some((characters, rest)) => open(begin, Opening::Choosing(group(alloc, characters)?), rest),
+    }
+}
+
+// After `(?` and this character.
+fn extension(alloc: Global, begin: usize, c: char, rest: &[char]) -> Found
+    ensures { Reads (spec.extension_token (find extensions c) begin rest.now) result }
+{
+    match c {
+        ':' => open(begin, Opening::Grouping, rest),
+        '>' => open(begin, Opening::Keeping, rest),
+        '=' => open(begin, Opening::Looking(true, false), rest),
+        '!' => open(begin, Opening::Looking(false, false), rest),
+        '<' => looking_back(begin, rest),
+        'P' => named(alloc, begin, rest),
+        '(' => conditional(alloc, begin, rest),
+        _ => Ok(None),
+    }
+}
+
+// After `(?`.
+fn extended(alloc: Global, begin: usize, text: &[char]) -> Found
+    ensures { Reads (spec.extended begin text.now) result }
+{
+    match text {
+        [] => Ok(None),
+        [c, rest @ ..] => extension(alloc, begin, *c, rest),
+    }
+}
+
+// After a `(`.
+pub(crate) fn opening(alloc: Global, begin: usize, text: &[char]) -> Found
+    ensures { Reads (spec.opening_token begin text.now) result }
+{
+    match text {
+        ['?', rest @ ..] => extended(alloc, begin, rest),
+        _ => open(begin, Opening::Capturing(None), text),
+    }
+}

@@ -1,0 +1,9 @@
+pub mod CodeLemmas
+pub mod FitLemmas
+pub mod KindLemmas
+pub mod ListLemmas
+pub mod MeaningLemmas
+pub mod NoFaultLemmas
+pub mod PassingLemmas
+pub mod RoomLemmas
+pub mod WidthLemmas

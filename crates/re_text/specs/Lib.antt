@@ -1,0 +1,5 @@
+pub mod Fits
+pub mod Laws
+pub mod Outcomes
+pub mod Rows
+pub mod Trees

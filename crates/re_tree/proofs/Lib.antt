@@ -1,0 +1,10 @@
+pub mod BoundLemmas
+pub mod HexLemmas
+pub mod SetLemmas
+pub mod ShiftLemmas
+pub mod SpelledLemmas
+pub mod TableLemmas
+pub mod TextLemmas
+pub mod TokenReadLemmas
+pub mod TokenWrittenLemmas
+pub mod ViewLemmas

@@ -1,0 +1,15 @@
+pub mod Characters
+pub mod Faults
+pub mod Grammar
+pub mod Laws
+pub mod Machine
+pub mod PlainText
+pub mod Reading
+pub mod Rows
+pub mod Sets
+pub mod Tables
+pub mod TextCode
+pub mod TextFalls
+pub mod TextView
+pub mod Tokens
+pub mod Widths

@@ -1,0 +1,57 @@
+-- The plain text that a text tree is.
+use Rattle.std.specs.Prelude.{ℕ, ◌+◌, max, List, [], ◌∷◌, Option, Some, None}
+use Rattle.re_tree.specs.declared.unit.UnitTest.{UnitTest}
+use Rattle.re_tree.specs.declared.unit.UnitTest.TheVariants.{Any, AnyAll, Literal, Set}
+use Rattle.re_tree.specs.declared.tree.GroupId.{GroupId}
+use Rattle.re_tree.specs.declared.tree.GroupId.TheVariants.{Number, Name}
+use Rattle.re_tree.specs.declared.tree.TextTree.{TextTree}
+use Rattle.re_tree.specs.declared.tree.TextTree.TheVariants.{Unit as UnitPart, Place, Reference, Conditional, Sequence, Alternation, Counted, Capture, Plain, Atomic, Look}
+use Rattle.re_tree.specs.PlainText.{PlainTest, dot, dot_all, literal, set, GroupName, numbered, named, PlainText, PlainTexts, unit, anchor, reference, conditional, conditional_else, sequence, alternation, counted, capture, plain, atomic_text, look_text, done, ◌also◌}
+
+abbrev pub test_of : UnitTest → PlainTest
+test_of Any = dot
+test_of AnyAll = dot_all
+test_of (Literal c) = literal c
+test_of (Set negated items) = set negated items
+
+abbrev pub group_of : GroupId → GroupName
+group_of (Number n) = numbered n
+group_of (Name name) = named name
+
+abbrev pub text_of : TextTree → PlainText
+text_of (UnitPart test) = unit (test_of test)
+text_of (Place k) = anchor k
+text_of (Reference begin id) = reference begin (group_of id)
+text_of (Conditional begin id met None) = conditional begin (group_of id) met
+text_of (Conditional begin id met (Some other)) = conditional_else begin (group_of id) met other
+text_of (Sequence parts) = sequence parts
+text_of (Alternation branches) = alternation branches
+text_of (Counted begin least most mode body) = counted begin least most mode body
+text_of (Capture begin number name body) = capture begin number name body
+text_of (Plain begin body) = plain begin body
+text_of (Atomic begin body) = atomic_text begin body
+text_of (Look begin positive back body) = look_text begin positive back body
+
+abbrev pub texts_of : List TextTree → PlainTexts
+texts_of [] = done
+texts_of (r ∷ rs) = text_of r also texts_of rs
+
+-- sizes that fall on the way down
+abbrev mutual
+  pub height : PlainText → ℕ
+  height (unit test) = 0
+  height (anchor k) = 0
+  height (reference begin id) = 0
+  height (conditional begin id met) = height met + 1
+  height (conditional_else begin id met other) = max (height met) (height other) + 1
+  height (sequence parts) = heights parts + 1
+  height (alternation branches) = heights branches + 1
+  height (counted begin least most mode body) = height body + 1
+  height (capture begin number name body) = height body + 1
+  height (plain begin body) = height body + 1
+  height (atomic_text begin body) = height body + 1
+  height (look_text begin positive back body) = height body + 1
+
+  pub heights : PlainTexts → ℕ
+  heights done = 0
+  heights (r also rs) = max (height r) (heights rs)
