@@ -158,6 +158,27 @@ fn compared(rt: HostRuntime) -> Result<(), PyError> {
     Ok(())
 }
 
+fn hash_of(alloc: Global, word: &str) -> Result<u64, PyError> {
+    Ok(PyStr::copy_of(alloc, word)?.py_hash(0).cast_unsigned())
+}
+
+// The values that the makers of FNV-1a publish for these three words.
+#[test]
+fn hashed_as_published(rt: HostRuntime) -> Result<(), PyError> {
+    let empty = hash_of(rt.alloc(), "")?;
+    let letter = hash_of(rt.alloc(), "a")?;
+    let word = hash_of(rt.alloc(), "foobar")?;
+    assert_eq!(rt;
+        [empty, letter, word],
+        [
+            0xcbf2_9ce4_8422_2325,
+            0xaf63_dc4c_8601_ec8c,
+            0x8594_4171_f739_67e8,
+        ]
+    );
+    Ok(())
+}
+
 #[test]
 fn hashed(rt: HostRuntime) -> Result<(), PyError> {
     let (small, copy) = (
