@@ -13,12 +13,14 @@ Examples:
     python3 tools/answer.py --text examples/digits.answer
     printf 'error invalid_code\n' | python3 tools/answer.py
 
-Ends with 0, with 1 where the answer is an error, and with 2 where the bytes are no answer.
+Ends with 0, with 1 where the answer is an error, and with 2 where the bytes are no answer or
+the output cannot be written. Where the reader has closed the pipe it ends with 2 and no line.
 """
 import argparse
 import sys
 
 import formats
+import output
 
 # What each name of an error means that the program can answer.
 ERRORS = {
@@ -26,9 +28,21 @@ ERRORS = {
 }
 
 
-def error_words(name):
-    """What a name of an error means; of a name that is not known, its words."""
-    return ERRORS.get(name, name.replace("_", " "))
+NOTHING = ("nothing came: the program ended without an answer; its status says why "
+           "(README.md, 'Requests, statuses and limits')")
+
+
+def answer_of(given):
+    """The answer that bytes are; of no bytes, and of an error that the program cannot answer, a fault."""
+    if not given:
+        raise formats.FormatError(NOTHING)
+    try:
+        answer = formats.read_answer(given)
+    except formats.FormatError as fault:
+        raise formats.FormatError(f"no answer: {fault}") from fault
+    if answer[0] == "error" and answer[1] not in ERRORS:
+        raise formats.FormatError(f"no answer: {answer[1]} is no error of the program")
+    return answer
 
 
 def printed(answer, form):
@@ -48,18 +62,17 @@ def main(words=None):
     parser.add_argument("file", nargs="?", metavar="FILE", help="the answer; standard input where it is left out")
     asked = parser.parse_args(words)
     try:
-        answer = formats.read_answer(bytes_of(asked.file))
+        answer = answer_of(bytes_of(asked.file))
     except formats.FormatError as fault:
-        print(f"answer.py: no answer: {fault}", file=sys.stderr)
+        print(f"answer.py: {fault}", file=sys.stderr)
         return 2
     except OSError as fault:
         print(f"answer.py: {fault.filename}: {fault.strerror}", file=sys.stderr)
         return 2
     if answer[0] == "error":
-        print(f"error {answer[1]}: {error_words(answer[1])}", file=sys.stderr)
+        print(f"error {answer[1]}: {ERRORS[answer[1]]}", file=sys.stderr)
         return 1
-    sys.stdout.buffer.write(printed(answer, asked.form or "both"))
-    return 0
+    return output.write("answer.py", printed(answer, asked.form or "both"))
 
 
 def bytes_of(path):

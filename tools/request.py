@@ -6,7 +6,8 @@ pattern to.
 
 The replacement is written as for `re.sub`: `\1`, `\g<1>` and `\g<name>` are groups, `\g<0>` is the whole
 match, and `\n` a line feed. A FILE is read as UTF-8, without any change; `-` is standard input.
-The letters are those of Python's flags: a (ASCII), m (MULTILINE), s (DOTALL), x (VERBOSE).
+The letters are those of Python's flags: a (ASCII), m (MULTILINE), s (DOTALL), u (UNICODE, as without
+it), x (VERBOSE).
 
 Examples:
 
@@ -16,12 +17,14 @@ Examples:
 
 Ends with 0, or with 2 and a line on standard error where there is no such request: the pattern or the
 replacement is none for CPython, the pattern ignores case or uses the locale, the file is not UTF-8,
-the request is longer than 16,777,216 bytes, or this is not CPython 3.11.
+the request is longer than 16,777,216 bytes, this is not CPython 3.11, or
+the request cannot be written. Where the reader has closed the pipe it ends with 2 and no line.
 """
 import argparse
 import sys
 
 import formats
+import output
 import python_regex
 
 
@@ -34,7 +37,7 @@ class Sub:
     def add_arguments(parser):
         parser.add_argument("pattern", metavar="PATTERN", help="a regular expression of Python")
         parser.add_argument("replacement", metavar="REPLACEMENT", help=r"a template, as '<\1>'")
-        parser.add_argument("--flags", default="", metavar="LETTERS", help="of a m s x; none by default")
+        parser.add_argument("--flags", default="", metavar="LETTERS", help="of a m s u x; none by default")
         parser.add_argument("--limit", type=int, default=0, metavar="N",
                             help="how many spans are replaced at most; 0, the default, is no limit")
         add_subject(parser)
@@ -87,8 +90,7 @@ def main(words=None):
         return failed(f"the subject is not UTF-8: {fault.reason} at byte {fault.start}")
     except OSError as fault:
         return failed(f"{fault.filename}: {fault.strerror}")
-    sys.stdout.buffer.write(made)
-    return 0
+    return output.write("request.py", made)
 
 
 def failed(why):

@@ -1,7 +1,7 @@
 """tools/request.py as it is called."""
 import unittest
 
-from support import EXAMPLES, needs_cpython, run
+from support import EXAMPLES, needs_cpython, run, run_closed, run_full
 
 import formats
 
@@ -21,6 +21,11 @@ class Request(unittest.TestCase):
     def test_an_example_of_the_repository_comes_out(self):
         status, out, _ = run("request.py", "sub", "ab", "", "--text", "abcabc")
         self.assertEqual((status, out), (0, (EXAMPLES / "info_block.request").read_bytes()))
+
+    def test_a_failed_write_is_one_line(self):
+        words = ("request.py", "sub", "a", "", "--text", "a")
+        self.assertEqual(run_full(*words), (2, "request.py: cannot write: No space left on device\n"))
+        self.assertEqual(run_closed(*words), (2, ""))
 
     def test_a_replacement_becomes_a_list(self):
         rows = {r"<\1>": "t3c i1 t3e", r"\g<0>": "t i0 t", r"\g<x>\1": "t i1 t i1 t", r"a\n": "t610a", "": "t"}
