@@ -1,5 +1,11 @@
+pub mod Asking
 pub mod Classes
 pub mod Dict
+pub mod HostSeen
+pub mod HostTable
+pub mod Laws
+pub mod Lookup
+pub mod NoHost
 pub mod Plain
 pub mod PlainCode
 pub mod Rows
