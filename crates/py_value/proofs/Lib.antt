@@ -1,6 +1,11 @@
+pub mod AsciiLemmas
 pub mod AskingLemmas
 pub mod DictLemmas
 pub mod ErrorLemmas
 pub mod HostLemmas
 pub mod ListLemmas
+pub mod MarkLemmas
+pub mod PrintingLemmas
 pub mod SilenceLemmas
+pub mod TextLemmas
+pub mod TranslateLemmas

@@ -1,3 +1,4 @@
+pub mod Affix
 pub mod Asking
 pub mod Classes
 pub mod Dict
@@ -5,9 +6,13 @@ pub mod HostSeen
 pub mod HostTable
 pub mod Laws
 pub mod Lookup
+pub mod Maketrans
 pub mod NoHost
 pub mod Plain
 pub mod PlainCode
+pub mod Printing
 pub mod Rows
+pub mod Sides
+pub mod Translate
 pub mod ValueFalls
 pub mod ValueView

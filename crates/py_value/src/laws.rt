@@ -1,7 +1,7 @@
-//! Laws of calls with a host.
+//! Laws of values and hosts.
 
 ghost use Rattle.std.specs.Prelude.{List, ℕ};
-ghost use Rattle.py_value.specs.Laws.{AnswersTheTable, AnswersAlone, BareIsSilent, ErrorsAreNamed, ItemErrors, AttrErrors};
+ghost use Rattle.py_value.specs.Laws.{AnswersTheTable, AnswersAlone, BareIsSilent, ErrorsAreNamed, ItemErrors, AttrErrors, PrintErrors, TranslatesByTheTable, TranslatesAlone};
 ghost use Rattle.py_value.specs.Plain.{Plain};
 
 /// What a call answers is its definition's under the host's table.
@@ -16,7 +16,7 @@ pub fn answers_without_a_host()
     ensures texts { AnswersAlone (List ℕ) }
 {}
 
-/// A value without handles is looked into without a host.
+/// A value without handles is looked into and printed without a host.
 pub fn bare_values_ask_nothing()
     ensures { BareIsSilent }
 {}
@@ -27,4 +27,11 @@ pub fn errors_are_named()
     ensures texts { ErrorsAreNamed (List ℕ) }
     ensures items { ItemErrors }
     ensures attributes { AttrErrors }
+    ensures printed { PrintErrors }
+{}
+
+/// A translated text is the table's of the host, or that of any table where no handle is asked.
+pub fn translated_texts_are_the_tables()
+    ensures told { TranslatesByTheTable }
+    ensures alone { TranslatesAlone }
 {}

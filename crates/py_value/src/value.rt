@@ -2,7 +2,7 @@
 
 ghost use Rattle.std.specs.Prelude.{◌≡◌};
 ghost use Rattle.py_value.specs.Classes.{class_of, integer_of};
-ghost use Rattle.py_value.specs.ValueView.{plain_of};
+ghost use Rattle.py_value.specs.ValueView.{plain_of, entries_of};
 
 use py_base::ClassName;
 use py_int::{PyBool, PyInt};
@@ -126,5 +126,15 @@ impl Value {
             Value::Int(number) => Some(*number),
             _ => None,
         }
+    }
+}
+
+impl PyDict {
+    // The keys and their values, moved.
+    pub(crate) fn into_entries(self) -> Vec<DictItem>
+        ensures { entries_of result.items ≡ self }
+    {
+        let PyDict { entries } = self;
+        entries
     }
 }

@@ -1,7 +1,17 @@
-//! Tests of py_value: lists, dictionaries, copies of values, and look-ups.
+//! Tests of py_value: look-ups, printed values, hosts in memory, and texts that values change.
 #![tactic(auto)]
 
 #[cfg(test)]
+mod deep;
+#[cfg(test)]
 mod looked_up;
+#[cfg(test)]
+mod made;
+#[cfg(test)]
+mod nested;
+#[cfg(test)]
+mod printed;
+#[cfg(test)]
+mod translated;
 #[cfg(test)]
 mod values;
