@@ -3,10 +3,10 @@ use Rattle.std.specs.Prelude.{◌≡◌, ◌⊎◌, Bool, List, ℕ, true, Some,
 use Rattle.py_base.specs.Stream.Faults.{Rose}
 use Rattle.py_base.specs.declared.error.PyError.{PyError}
 use Rattle.py_base.specs.declared.error.PyError.TheVariants.{NoMemory, HostFault}
-use Rattle.py_value.specs.Asking.{Asking, Answers, Seen, Table, by_table, silent, Refuses}
-use Rattle.py_value.specs.Items.{item, item_refusal}
+use Rattle.py_value.specs.Asking.{Asking, Answers, Seen, Table, by_table, silent, Fails}
+use Rattle.py_value.specs.Lookup.{item, item_error}
 use Rattle.py_value.specs.Plain.{Plain, bare}
-use Rattle.py_value.specs.Printed.{repr_of}
+use Rattle.py_value.specs.Printing.{repr_of}
 
 -- where the host tells its table, an answer is the table's, or want of memory, or a fault of a host whose count rose
 abbrev pub AnswersTheTable : Type 0 → Type 0
@@ -23,10 +23,10 @@ abbrev pub BareIsSilent : Type 0
 BareIsSilent = (v k : Plain) → bare v ≡ true → (silent (item v k) ≡ true) × (silent (repr_of v) ≡ true)
 
 -- a refusal is one that the call may come to, for every host, or want of memory, or a fault of a host whose count rose
-abbrev pub RefusalsAreNamed : Type 0 → Type 0
-RefusalsAreNamed A = (named : PyError → Bool) (call : Asking A) (old new : Seen) (e : PyError) → Refuses named call → Answers call old new (Err e)
+abbrev pub ErrorsAreNamed : Type 0 → Type 0
+ErrorsAreNamed A = (named : PyError → Bool) (call : Asking A) (old new : Seen) (e : PyError) → Fails named call → Answers call old new (Err e)
     → (named e ≡ true) ⊎ (e ≡ NoMemory) ⊎ ((e ≡ HostFault) × Rose old.faults new.faults)
 
 -- the refusals of `v[k]` are these
-abbrev pub ItemRefusals : Type 0
-ItemRefusals = (v k : Plain) → Refuses item_refusal (item v k)
+abbrev pub ItemErrors : Type 0
+ItemErrors = (v k : Plain) → Fails item_error (item v k)

@@ -1,23 +1,24 @@
 //! How values are printed: `str` and `repr` of "Built-in Functions" of the Python Library Reference.
 
-ghost use Rattle.std.specs.Prelude.{◌≡◌, [], ◌++◌, OnOk, OnErr, IsOkUnless, Ok, None, zero, codes, true};
+ghost use Rattle.std.specs.Prelude.{◌≡◌, [], ◌++◌, OnOk, IsOkUnless, Ok, None, zero, chars, codes, true};
 ghost use Rattle.std.specs.Fmt.{decimal, signed_decimal};
 ghost use Rattle.py_base.specs.Chars.Quoting.{text_repr, bytes_repr};
 ghost use Rattle.py_text.specs.Text.{all_ascii};
 ghost use Rattle.py_value.specs.Asking.{Answers, Meets};
 ghost use Rattle.py_value.specs.Plain.{tuple, list, dict, handle as handle_of};
-ghost use Rattle.py_value.specs.Printed as spec;
-ghost use Rattle.py_value.specs.Printed.{written};
+ghost use Rattle.py_value.specs.Printing as spec;
+ghost use Rattle.py_value.specs.Printing.{written};
 ghost use Rattle.py_value.specs.ValueView.{plain_of};
 
 use crate::host::{Host, HostAnswer};
 use crate::value::{DictKey, PyDict, Value, ValueList};
 use py_base::{ClassName, PyError, PyResult};
 use py_int::PyInt;
+use py_str::{BytesMore, StrMore};
 use py_text::{PyBytes, PyStr};
 use std::alloc::Global;
 
-// Puts an ASCII text behind.
+// Puts an ASCII text at the end.
 fn put(out: &mut PyStr, more: &str) -> PyResult<()>
     requires { all_ascii more.now ≡ true }
     ensures ok { OnOk result (out.new ≡ out.old ++ more.now) }
@@ -26,20 +27,22 @@ fn put(out: &mut PyStr, more: &str) -> PyResult<()>
     out.append(more)
 }
 
-// Stands for the call of py_str, which is not written yet: it has no memory.
-fn put_text_repr(out: &mut PyStr, _text: &PyStr) -> PyResult<()>
-    ensures ok { OnOk result (out.new ≡ out.old ++ text_repr _text.now) }
+// Puts the repr of a text at the end.
+fn put_text_repr(alloc: Global, out: &mut PyStr, text: &PyStr) -> PyResult<()>
+    ensures ok { OnOk result (out.new ≡ out.old ++ text_repr text.now) }
     ensures err { IsOkUnless result PyError.NoMemory }
 {
-    Err(PyError::NoMemory)
+    let quoted = StrMore::repr(text, alloc)?;
+    out.append(quoted.as_str())
 }
 
-// The same for bytes.
-fn put_bytes_repr(out: &mut PyStr, _bytes: &PyBytes) -> PyResult<()>
-    ensures ok { OnOk result (out.new ≡ out.old ++ bytes_repr _bytes.now) }
+// Puts the repr of bytes at the end.
+fn put_bytes_repr(alloc: Global, out: &mut PyStr, bytes: &PyBytes) -> PyResult<()>
+    ensures ok { OnOk result (out.new ≡ out.old ++ bytes_repr bytes.now) }
     ensures err { IsOkUnless result PyError.NoMemory }
 {
-    Err(PyError::NoMemory)
+    let quoted = BytesMore::repr(bytes, alloc)?;
+    out.append(quoted.as_str())
 }
 
 fn put_number(alloc: Global, out: &mut PyStr, number: PyInt) -> PyResult<()>
@@ -56,12 +59,12 @@ fn put_key(alloc: Global, out: &mut PyStr, key: &DictKey) -> PyResult<()>
 {
     match key {
         DictKey::Int(number) => put_number(alloc, out, *number),
-        DictKey::Str(text) => put_text_repr(out, text),
-        DictKey::Bytes(bytes) => put_bytes_repr(out, bytes),
+        DictKey::Str(text) => put_text_repr(alloc, out, text),
+        DictKey::Bytes(bytes) => put_bytes_repr(alloc, out, bytes),
     }
 }
 
-// What stands before the item `i`.
+// What is before the item `i`.
 fn put_comma(out: &mut PyStr, i: usize) -> PyResult<()>
     ensures ok { OnOk result (out.new ≡ out.old ++ spec.comma i) }
     ensures err { IsOkUnless result PyError.NoMemory }
@@ -72,7 +75,7 @@ fn put_comma(out: &mut PyStr, i: usize) -> PyResult<()>
     put(out, ", ")
 }
 
-// What stands before the value of a key.
+// What is before the value of a key.
 fn put_label(alloc: Global, out: &mut PyStr, i: usize, key: &DictKey) -> PyResult<()>
     ensures ok { OnOk result (out.new ≡ out.old ++ spec.comma i ++ spec.key_repr key.now ++ codes ": ") }
     ensures err { IsOkUnless result PyError.NoMemory }
@@ -85,7 +88,7 @@ fn put_label(alloc: Global, out: &mut PyStr, i: usize, key: &DictKey) -> PyResul
 
 // The text that a host answered.
 fn put_text(out: &mut PyStr, answer: &Value) -> PyResult<()>
-    ensures { Meets (spec.text_behind out.old (plain_of answer.now)) (written result out.new) }
+    ensures { Meets (spec.text_after out.old (plain_of answer.now)) (written result out.new) }
 {
     match answer {
         Value::Str(text) => out.append(text.as_str()),
@@ -130,7 +133,7 @@ fn put_handle<H: Host>(alloc: Global, host: &mut H, out: &mut PyStr, handle: u64
 }
 
 impl Value {
-    // Puts the repr behind a text.
+    // Puts the repr at the end of a text.
     #[cycle(prints)]
     fn put_repr<H: Host>(&self, alloc: Global, host: &mut H, out: &mut PyStr) -> PyResult<()>
         ensures { Answers (spec.put_repr (plain_of self.now) out.old) (H.seen host.old) (H.seen host.new) (written result out.new) }
@@ -153,11 +156,11 @@ impl Value {
                 Ok(())
             }
             Value::Str(text) => {
-                put_text_repr(out, text)?;
+                put_text_repr(alloc, out, text)?;
                 Ok(())
             }
             Value::Bytes(bytes) => {
-                put_bytes_repr(out, bytes)?;
+                put_bytes_repr(alloc, out, bytes)?;
                 Ok(())
             }
             Value::Tuple(list) => list.put_tuple(alloc, host, out),
@@ -228,7 +231,7 @@ impl PyDict {
 ///
 /// # Errors
 ///
-/// `TooDeep` where values stand in one another more than 200 deep, before the host is asked.
+/// `TooDeep` where values are inside one another more than 200 deep, before the host is asked.
 pub fn repr_of<H: Host>(alloc: Global, host: &mut H, obj: &Value) -> PyResult<PyStr>
     ensures { Answers (spec.repr_of (plain_of obj.now)) (H.seen host.old) (H.seen host.new) result }
 {
@@ -242,7 +245,7 @@ pub fn repr_of<H: Host>(alloc: Global, host: &mut H, obj: &Value) -> PyResult<Py
 
 // The text that a host answered, alone.
 fn answered_text(alloc: Global, answer: &Value) -> PyResult<PyStr>
-    ensures { Meets (spec.text_behind [] (plain_of answer.now)) result }
+    ensures { Meets (spec.text_after [] (plain_of answer.now)) result }
 {
     match answer {
         Value::Str(text) => Ok(text.try_clone(alloc)?),
@@ -274,7 +277,7 @@ fn handle_text<H: Host>(alloc: Global, host: &mut H, handle: u64) -> PyResult<Py
 ///
 /// # Errors
 ///
-/// `TooDeep` where values stand in one another more than 200 deep, before the host is asked.
+/// `TooDeep` where values are inside one another more than 200 deep, before the host is asked.
 pub fn str_of<H: Host>(alloc: Global, host: &mut H, obj: &Value) -> PyResult<PyStr>
     ensures { Answers (spec.str_of (plain_of obj.now)) (H.seen host.old) (H.seen host.new) result }
 {
@@ -283,4 +286,51 @@ pub fn str_of<H: Host>(alloc: Global, host: &mut H, obj: &Value) -> PyResult<PyS
         Value::Handle(handle) => handle_text(alloc, host, *handle),
         _ => repr_of(alloc, host, obj),
     }
+}
+
+// Puts a character at the end; one past `~` is escaped.
+fn put_ascii(alloc: Global, out: &mut PyStr, c: char) -> PyResult<()>
+    ensures ok { OnOk result (out.new ≡ out.old ++ spec.ascii_char c) }
+    ensures err { IsOkUnless result PyError.NoMemory }
+{
+    let text = PyStr::from_char(alloc, c)?;
+    if c <= '~' {
+        return out.append(text.as_str());
+    }
+    let quoted = text.ascii(alloc)?;
+    out.append(quoted.get_chars(1..quoted.len() - 1))
+}
+
+// Puts a text at the end, each character past `~` escaped.
+fn put_escaped(alloc: Global, out: &mut PyStr, text: &str) -> PyResult<()>
+    ensures ok { OnOk result (out.new ≡ out.old ++ spec.escaped (chars text.now)) }
+    ensures err { IsOkUnless result PyError.NoMemory }
+{
+    let mut rest = text.chars();
+    'chars: while let Some(c) = rest.next() {
+        put_ascii(alloc, out, c)?;
+    }
+    Ok(())
+}
+
+// The text with each character past `~` escaped.
+fn escaped(alloc: Global, text: &PyStr) -> PyResult<PyStr>
+    ensures { Meets (Ok (spec.escaped text.now)) result }
+{
+    let mut out = PyStr::new_ascii_unchecked(Vec::new(alloc));
+    put_escaped(alloc, &mut out, text.as_str())?;
+    Ok(out)
+}
+
+/// `ascii(obj)`.
+///
+/// # Errors
+///
+/// `TooDeep` where values are inside one another more than 200 deep, before the host is asked.
+pub fn ascii_of<H: Host>(alloc: Global, host: &mut H, obj: &Value) -> PyResult<PyStr>
+    ensures { Answers (spec.ascii_of (plain_of obj.now))
+        (H.seen host.old) (H.seen host.new) result }
+{
+    let text = repr_of(alloc, host, obj)?;
+    escaped(alloc, &text)
 }

@@ -1,0 +1,66 @@
+-- A value without handles asks a host nothing.
+use Rattle.std.proofs.Common.{◌≡◌, ◌∙◌, ℕ, suc, zero, Bool, true, false, ◌&&◌, List, ◌++◌, Result, Ok, Err, refl, cond, nat_le, codes, []}
+use Rattle.py_base.specs.declared.error.PyError.{PyError}
+use Rattle.py_value.specs.Asking.{Asking, gives, asks, tests, ◌and_then◌, silent}
+use Rattle.py_value.specs.Lookup.{item, index_of, text_item, bytes_item, list_item, needed_key, found_under}
+use Rattle.py_value.specs.Dict.{lookup}
+use Rattle.py_value.specs.Plain.{Plain, Plains, Entries, none, bool, int, str, bytes, tuple, list, dict, handle, empty, ◌then◌, no_entries, entry, bare, values_bare, entries_bare, depth}
+use Rattle.py_value.specs.Printing.{put_repr, put_values, put_entries, repr_of, str_of, text_of, unless_deep, comma, key_repr, tuple_end}
+
+pub silent_then : {A B : Type 0} (call : Asking A) (f : A → Asking B) → silent call ≡ true → ((a : A) → silent (f a) ≡ true) → silent (call and_then f) ≡ true
+silent_then (gives (Ok a)) f h more = more a
+silent_then (gives (Err e)) f h more = refl
+silent_then (asks q m k next) f h more = absurd (cc)
+silent_then (tests q next) f h more = absurd (cc)
+
+given_then : {A B : Type 0} (r : Result A PyError) (f : A → Asking B) → ((a : A) → silent (f a) ≡ true) → silent (gives r and_then f) ≡ true
+given_then (Ok a) f more = more a
+given_then (Err e) f more = refl
+
+pub item_silent : (v k : Plain) → bare v ≡ true → silent (item v k) ≡ true
+item_silent none k h = refl
+item_silent (bool b) k h = refl
+item_silent (int z) k h = refl
+item_silent (str cs) k h = given_then (index_of k) (λ z. gives (text_item cs z)) (λ z. refl)
+item_silent (bytes bs) k h = given_then (index_of k) (λ z. gives (bytes_item bs z)) (λ z. refl)
+item_silent (tuple vs) k h = given_then (index_of k) (λ z. gives (list_item vs z)) (λ z. refl)
+item_silent (list vs) k h = given_then (index_of k) (λ z. gives (list_item vs z)) (λ z. refl)
+item_silent (dict es) k h = given_then (needed_key k) (λ key. gives (found_under key (lookup key es))) (λ key. refl)
+item_silent (handle x) k h = absurd (cc)
+
+both_true : (a b : Bool) → (a && b) ≡ true → (a ≡ true) × (b ≡ true)
+both_true true true h = (refl, refl)
+both_true true false h = absurd (cc)
+both_true false b h = absurd (cc)
+
+mutual
+  pub repr_silent : (v : Plain) (t : List ℕ) → bare v ≡ true → silent (put_repr v t) ≡ true
+  repr_silent none t h = refl
+  repr_silent (bool b) t h = refl
+  repr_silent (int z) t h = refl
+  repr_silent (str cs) t h = refl
+  repr_silent (bytes bs) t h = refl
+  repr_silent (tuple vs) t h = silent_then (put_values zero vs (t ++ codes "(")) (λ u. gives (Ok (u ++ tuple_end vs))) (values_silent vs zero (t ++ codes "(") h) (λ u. refl)
+  repr_silent (list vs) t h = silent_then (put_values zero vs (t ++ codes "[")) (λ u. gives (Ok (u ++ codes "]"))) (values_silent vs zero (t ++ codes "[") h) (λ u. refl)
+  repr_silent (dict es) t h = silent_then (put_entries zero es (t ++ codes "{")) (λ u. gives (Ok (u ++ codes "}"))) (entries_silent es zero (t ++ codes "{") h) (λ u. refl)
+  repr_silent (handle x) t h = absurd (cc)
+
+  pub values_silent : (vs : Plains) (i : ℕ) (t : List ℕ) → values_bare vs ≡ true → silent (put_values i vs t) ≡ true
+  values_silent empty i t h = refl
+  values_silent (v then vs) i t h =
+      let p = both_true (bare v) (values_bare vs) h in
+      silent_then (put_repr v (t ++ comma i)) (λ u. put_values (suc i) vs u) (repr_silent v (t ++ comma i) p.0) (λ u. values_silent vs (suc i) u p.1)
+
+  pub entries_silent : (es : Entries) (i : ℕ) (t : List ℕ) → entries_bare es ≡ true → silent (put_entries i es t) ≡ true
+  entries_silent no_entries i t h = refl
+  entries_silent (entry k v es) i t h =
+      let p = both_true (bare v) (entries_bare es) h in
+      let start = t ++ comma i ++ key_repr k ++ codes ": " in
+      silent_then (put_repr v start) (λ u. put_entries (suc i) es u) (repr_silent v start p.0) (λ u. entries_silent es (suc i) u p.1)
+
+unless_silent : (b : Bool) (call : Asking (List ℕ)) (e : PyError) → silent call ≡ true → silent (cond b call (gives (Err e))) ≡ true
+unless_silent true call e h = h
+unless_silent false call e h = refl
+
+pub repr_of_silent : (v : Plain) → bare v ≡ true → silent (repr_of v) ≡ true
+repr_of_silent v h = unless_silent (nat_le (depth v) 200) (put_repr v []) _ (repr_silent v [] h)

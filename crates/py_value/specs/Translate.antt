@@ -1,0 +1,76 @@
+-- Texts whose characters a table replaces: `str.translate` and `str.maketrans`.
+use Rattle.std.specs.Prelude.{◌≡◌, ◌≤◌, ℕ, zero, suc, nat_eq, if◌then◌else◌, Bool, true, false, List, [], ◌∷◌, ◌++◌, length, ℤ, pos, negsuc, Option, Some, None, Result, Ok, Err, ok_or, MatchResult}
+use lib.Utf8.{scalar}
+use Rattle.py_base.specs.declared.error.causes.TranslateKind.TheVariants.{Range, Kind}
+use Rattle.py_base.specs.declared.error.type_names.ClassName.TheVariants.{NoneType, Bool as BoolClass, Int as IntClass, Object}
+use Rattle.py_base.specs.declared.error.PyError.{PyError}
+use Rattle.py_base.specs.declared.error.PyError.TheVariants.{NoMemory, NotSubscriptable, Translate}
+use Rattle.py_value.specs.Asking.{Asking, gives, tests, Answers, Comes, Seen, UnlessOutOfMemory}
+use Rattle.py_value.specs.Classes.{class_of, integer_of}
+use Rattle.py_value.specs.Lookup.{item}
+use Rattle.py_value.specs.Plain.{Plain, none, bool, int, str, handle}
+
+-- a value that has items: a text, bytes, a tuple, a list, a dict, or a handle whose host says so
+abbrev pub has_items : Plain → Asking (Unit {0})
+has_items none = gives (Err (NotSubscriptable NoneType))
+has_items (bool b) = gives (Err (NotSubscriptable BoolClass))
+has_items (int z) = gives (Err (NotSubscriptable IntClass))
+has_items (handle h) = tests h (λ has. gives (if has then Ok tt else Err (NotSubscriptable Object)))
+has_items _ = gives (Ok tt)
+
+-- the character of a number
+abbrev pub char_of : ℤ → Option ℕ
+char_of (pos n) = if scalar n then Some n else None
+char_of (negsuc n) = None
+
+-- a text with the character of an integer after it
+abbrev pub put_integer : List ℕ → Option ℤ → Result (List ℕ) PyError
+put_integer out None = Err (Translate Kind)
+put_integer out (Some z) = elim (char_of z) [ None ↦ Err (Translate Range) | Some c ↦ Ok (out ++ c ∷ []) ]
+
+-- a text with what was found for a character after it: nothing, a text, or a character
+abbrev pub put_found : List ℕ → Plain → Result (List ℕ) PyError
+put_found out none = Ok out
+put_found out (str cs) = Ok (out ++ cs)
+put_found out v = put_integer out (integer_of v)
+
+-- and with a character that was looked up; it is kept where the look-up failed
+abbrev pub put_looked_up : ℕ → List ℕ → Result Plain PyError → Result (List ℕ) PyError
+put_looked_up c out (Ok v) = put_found out v
+put_looked_up c out (Err e) = Ok (out ++ c ∷ [])
+
+-- one character: it is looked up, and what that gave is put
+pub record Puts (v : Plain) (c : ℕ) (out : List ℕ) (old new : Seen)
+    (result : Result (List ℕ) PyError) : Type 0 where
+  pub kept : new.table ≡ old.table
+  pub later : old.faults ≤ new.faults
+  pub comes : UnlessOutOfMemory result ((found : Result Plain PyError)
+      × Answers (item v (int (pos c))) old new found
+      × (result ≡ put_looked_up c out found))
+
+-- one character after the other, up to the first error
+abbrev pub Goes : Plain → List ℕ → List ℕ → Seen → Seen → Result (List ℕ) PyError → Type 0
+Goes v [] out old new result = (result ≡ Ok out) × (new ≡ old)
+Goes v (c ∷ cs) out old new result =
+    (found : Result Plain PyError) × (mid : Seen)
+    × Answers (item v (int (pos c))) old mid found
+    × MatchResult (put_looked_up c out found)
+      (λ more. Goes v cs more mid new result)
+      (λ e. (result ≡ Err e) × (new ≡ mid))
+
+pub record GoesOn (v : Plain) (cs out : List ℕ) (old new : Seen)
+    (result : Result (List ℕ) PyError) : Type 0 where
+  pub kept : new.table ≡ old.table
+  pub later : old.faults ≤ new.faults
+  pub comes : UnlessOutOfMemory result (Goes v cs out old new result)
+
+-- the table is tested before any character
+pub record Translates (v : Plain) (cs : List ℕ) (old new : Seen)
+    (result : Result (List ℕ) PyError) : Type 0 where
+  pub kept : new.table ≡ old.table
+  pub later : old.faults ≤ new.faults
+  pub comes : UnlessOutOfMemory result ((has : Result (Unit {0}) PyError)
+      × Comes old old (has_items v) has
+      × MatchResult has
+        (λ u. Goes v cs [] old new result)
+        (λ e. (result ≡ Err e) × (new ≡ old)))
