@@ -114,7 +114,7 @@ answers_alone call old new t r h quiet = elim (unless_or r (Comes old new call r
   | inl comes ↦ inl (by_no_table call r old new t quiet comes)
 ]
 
-unless_free : {A : Type 0} (r : Result A PyError) (P : Type 0) → P → UnlessOutOfMemory r P
+pub unless_free : {A : Type 0} (r : Result A PyError) (P : Type 0) → P → UnlessOutOfMemory r P
 unless_free (Ok a) P p = p
 unless_free (Err NoMemory) P p = tt
 unless_free (Err e) P p = p

@@ -1,16 +1,17 @@
--- Which refusals a call may come to.
-use Rattle.std.proofs.Common.{◌≡◌, ◌∙◌, ◌⊎◌, ℕ, Bool, true, false, Option, Some, None, Result, Ok, Err, refl, sym, ap, inl, inr, subst}
+-- Which errors a call may come to.
+use Rattle.std.proofs.Common.{◌≡◌, ◌∙◌, ◌⊎◌, ℕ, zero, suc, Bool, true, false, cond, nat_le, codes, List, [], ◌++◌, Option, Some, None, Result, Ok, Err, refl, sym, ap, inl, inr, subst}
 use Rattle.std.specs.Prelude.{ok_or}
 use Rattle.py_base.specs.Stream.Faults.{Rose}
 use Rattle.py_base.specs.declared.error.PyError.{PyError}
-use Rattle.py_base.specs.declared.error.PyError.TheVariants.{NoMemory, HostFault, Downcast, Key}
-use Rattle.py_base.specs.declared.error.type_names.ClassName.TheVariants.{Int as IntClass, Str as StrClass}
+use Rattle.py_base.specs.declared.error.PyError.TheVariants.{NoMemory, HostFault, Downcast, Key, NoAttribute, TooDeep}
+use Rattle.py_base.specs.declared.error.type_names.ClassName.TheVariants.{Int as IntClass, Str as StrClass, Object}
 use Rattle.py_value.specs.Asking.{Asking, gives, asks, tests, ◌and_then◌, Seen, Comes, Answers, Fails, UnlessOutOfMemory}
 use Rattle.py_value.specs.Classes.{class_of, integer_of}
-use Rattle.py_value.specs.Lookup.{item, index_of, text_item, bytes_item, list_item, needed_key, found_under, handle_item, item_error, key_of, place_in, value_in, byte_in}
+use Rattle.py_value.specs.Lookup.{item, index_of, text_item, bytes_item, list_item, needed_key, found_under, handle_item, item_error, key_of, place_in, value_in, byte_in, attr, attr_error}
 use Rattle.py_value.specs.Dict.{lookup}
 use Rattle.py_value.specs.declared.host.HostMethod.TheVariants.{GetItem}
-use Rattle.py_value.specs.Plain.{Plain, none, bool, int, str, bytes, tuple, list, dict, handle}
+use Rattle.py_value.specs.Plain.{Plain, Plains, Entries, none, bool, int, str, bytes, tuple, list, dict, handle, empty, ◌then◌, no_entries, entry, depth}
+use Rattle.py_value.specs.Printing.{print_error, put_repr, put_values, put_entries, repr_of, str_of, ascii_of, text_of, text_after, handle_after, handle_text, comma, key_repr, tuple_end, escaped}
 
 comes_named : {A : Type 0} (p : PyError → Bool) (call : Asking A) (e : PyError) (s0 s1 : Seen) → Fails p call → Comes s0 s1 call (Err e) → (p e ≡ true) ⊎ ((e ≡ HostFault) × Rose s0.faults s1.faults)
 comes_named p (gives (Ok a)) e s0 s1 r h = absurd (cc)
@@ -60,3 +61,77 @@ item_errors (tuple vs) k = fails_then item_error (gives (index_of k)) (λ z. giv
 item_errors (list vs) k = fails_then item_error (gives (index_of k)) (λ z. gives (list_item vs z)) (index_named k) (λ z. fails_or item_error _ _ refl)
 item_errors (dict es) k = fails_then item_error (gives (needed_key k)) (λ key. gives (found_under key (lookup key es))) (key_named k) (λ key. fails_or item_error _ _ refl)
 item_errors (handle h) k = λ has. by_items h k has
+
+pub attr_errors : (v : Plain) (name : List ℕ) → Fails attr_error (attr v name)
+attr_errors none name = refl
+attr_errors (bool b) name = refl
+attr_errors (int z) name = refl
+attr_errors (str cs) name = refl
+attr_errors (bytes bs) name = refl
+attr_errors (tuple vs) name = refl
+attr_errors (list vs) name = refl
+attr_errors (dict es) name = refl
+attr_errors (handle h) name = λ found. fails_or attr_error found (NoAttribute Object) refl
+
+text_named : (t : List ℕ) (v : Plain) → Fails print_error (gives (text_after t v))
+text_named t none = refl
+text_named t (bool b) = refl
+text_named t (int z) = refl
+text_named t (str cs) = tt
+text_named t (bytes bs) = refl
+text_named t (tuple vs) = refl
+text_named t (list vs) = refl
+text_named t (dict es) = refl
+text_named t (handle h) = refl
+
+handle_named : (t : List ℕ) (h : ℕ) (a : Option Plain) → Fails print_error (gives (handle_after t h a))
+handle_named t h None = tt
+handle_named t h (Some v) = text_named t v
+
+mutual
+  repr_named : (v : Plain) (t : List ℕ) → Fails print_error (put_repr v t)
+  repr_named none t = tt
+  repr_named (bool b) t = tt
+  repr_named (int z) t = tt
+  repr_named (str cs) t = tt
+  repr_named (bytes bs) t = tt
+  repr_named (tuple vs) t = fails_then print_error (put_values zero vs (t ++ codes "(")) (λ u. gives (Ok (u ++ tuple_end vs))) (values_named vs zero (t ++ codes "(")) (λ u. tt)
+  repr_named (list vs) t = fails_then print_error (put_values zero vs (t ++ codes "[")) (λ u. gives (Ok (u ++ codes "]"))) (values_named vs zero (t ++ codes "[")) (λ u. tt)
+  repr_named (dict es) t = fails_then print_error (put_entries zero es (t ++ codes "{")) (λ u. gives (Ok (u ++ codes "}"))) (entries_named es zero (t ++ codes "{")) (λ u. tt)
+  repr_named (handle h) t = λ a. handle_named t h a
+
+  values_named : (vs : Plains) (i : ℕ) (t : List ℕ) → Fails print_error (put_values i vs t)
+  values_named empty i t = tt
+  values_named (v then vs) i t = fails_then print_error (put_repr v (t ++ comma i)) (λ u. put_values (suc i) vs u) (repr_named v (t ++ comma i)) (λ u. values_named vs (suc i) u)
+
+  entries_named : (es : Entries) (i : ℕ) (t : List ℕ) → Fails print_error (put_entries i es t)
+  entries_named no_entries i t = tt
+  entries_named (entry k v es) i t =
+      let start = t ++ comma i ++ key_repr k ++ codes ": " in
+      fails_then print_error (put_repr v start) (λ u. put_entries (suc i) es u) (repr_named v start) (λ u. entries_named es (suc i) u)
+
+limit_named : (b : Bool) (call : Asking (List ℕ)) → Fails print_error call → Fails print_error (cond b call (gives (Err TooDeep)))
+limit_named true call h = h
+limit_named false call h = refl
+
+handle_text_named : (h : ℕ) (a : Option Plain) → Fails print_error (handle_text h a)
+handle_text_named h None = λ a. handle_named [] h a
+handle_text_named h (Some v) = text_named [] v
+
+str_named : (v : Plain) → Fails print_error (text_of v)
+str_named none = tt
+str_named (bool b) = tt
+str_named (int z) = tt
+str_named (str cs) = tt
+str_named (bytes bs) = tt
+str_named (tuple vs) = repr_named (tuple vs) []
+str_named (list vs) = repr_named (list vs) []
+str_named (dict es) = repr_named (dict es) []
+str_named (handle h) = λ a. handle_text_named h a
+
+whole_named : (v : Plain) → Fails print_error (repr_of v)
+whole_named v = limit_named (nat_le (depth v) 200) (put_repr v []) (repr_named v [])
+
+pub print_errors : (v : Plain) → Fails print_error (repr_of v) × Fails print_error (str_of v) × Fails print_error (ascii_of v)
+print_errors v =
+    (whole_named v, limit_named (nat_le (depth v) 200) (text_of v) (str_named v), fails_then print_error (repr_of v) (λ t. gives (Ok (escaped t))) (whole_named v) (λ t. tt))

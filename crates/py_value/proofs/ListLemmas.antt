@@ -2,7 +2,7 @@
 use Rattle.std.proofs.Common.{◌≡◌, ℕ, ◌+◌, ◌≤◌, List, [], ◌∷◌, ◌++◌, length, take, get_or, max, zero, add-one, ◌<◌, refl, ap, sym, ◌∙◌, append_assoc, codes, suc, arith, drop, Some, true, false, None, Bool, cond, Option, option_map}
 use Rattle.std.proofs.lemmas.List.{drop_more}
 use Rattle.std.proofs.Math.ListN.{set}
-use Rattle.py_value.specs.Dict.{same_key, lookup, place_of, put, size_of_entries}
+use Rattle.py_value.specs.Dict.{same_key, lookup, entry_at, place_of, put, size_of_entries}
 use Rattle.py_value.specs.declared.value.DictKey.{DictKey}
 use Rattle.std.proofs.lemmas.List.{append-nil}
 use Rattle.py_value.specs.declared.value.Value.{Value}
@@ -51,6 +51,16 @@ pub no_value : (vs : List Value) (i : ℕ) → length vs ≤ i → value_at (val
 no_value [] i le = refl
 no_value (w ∷ vs) zero le = absurd (omega arith)
 no_value (w ∷ vs) (suc i) le = no_value vs i (omega arith)
+
+pub entry_there : (es : List DictItem) (i : ℕ) (d : DictItem) → i < length es → d ≡ get_or es i d → entry_at i (entries_of es) ≡ Some (d.key, plain_of d.value)
+entry_there [] i d lt e = absurd (omega arith)
+entry_there (x ∷ es) zero d lt e = rw (← e) refl
+entry_there (x ∷ es) (suc i) d lt e = entry_there es i d (omega arith) e
+
+pub no_entry : (es : List DictItem) (i : ℕ) → length es ≤ i → entry_at i (entries_of es) ≡ None
+no_entry [] i le = refl
+no_entry (x ∷ es) zero le = absurd (omega arith)
+no_entry (x ∷ es) (suc i) le = no_entry es i (omega arith)
 
 pub entries_size : (es : List DictItem) → length es ≡ size_of_entries (entries_of es)
 entries_size [] = refl

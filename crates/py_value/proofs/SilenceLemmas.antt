@@ -5,7 +5,7 @@ use Rattle.py_value.specs.Asking.{Asking, gives, asks, tests, ◌and_then◌, si
 use Rattle.py_value.specs.Lookup.{item, index_of, text_item, bytes_item, list_item, needed_key, found_under}
 use Rattle.py_value.specs.Dict.{lookup}
 use Rattle.py_value.specs.Plain.{Plain, Plains, Entries, none, bool, int, str, bytes, tuple, list, dict, handle, empty, ◌then◌, no_entries, entry, bare, values_bare, entries_bare, depth}
-use Rattle.py_value.specs.Printing.{put_repr, put_values, put_entries, repr_of, str_of, text_of, unless_deep, comma, key_repr, tuple_end}
+use Rattle.py_value.specs.Printing.{put_repr, put_values, put_entries, repr_of, str_of, ascii_of, text_of, unless_deep, comma, key_repr, tuple_end, escaped}
 
 pub silent_then : {A B : Type 0} (call : Asking A) (f : A → Asking B) → silent call ≡ true → ((a : A) → silent (f a) ≡ true) → silent (call and_then f) ≡ true
 silent_then (gives (Ok a)) f h more = more a
@@ -64,3 +64,20 @@ unless_silent false call e h = refl
 
 pub repr_of_silent : (v : Plain) → bare v ≡ true → silent (repr_of v) ≡ true
 repr_of_silent v h = unless_silent (nat_le (depth v) 200) (put_repr v []) _ (repr_silent v [] h)
+
+text_silent : (v : Plain) → bare v ≡ true → silent (text_of v) ≡ true
+text_silent none h = refl
+text_silent (bool b) h = refl
+text_silent (int z) h = refl
+text_silent (str cs) h = refl
+text_silent (bytes bs) h = refl
+text_silent (tuple vs) h = repr_silent (tuple vs) [] h
+text_silent (list vs) h = repr_silent (list vs) [] h
+text_silent (dict es) h = repr_silent (dict es) [] h
+text_silent (handle x) h = absurd (cc)
+
+pub str_of_silent : (v : Plain) → bare v ≡ true → silent (str_of v) ≡ true
+str_of_silent v h = unless_silent (nat_le (depth v) 200) (text_of v) _ (text_silent v h)
+
+pub ascii_of_silent : (v : Plain) → bare v ≡ true → silent (ascii_of v) ≡ true
+ascii_of_silent v h = silent_then (repr_of v) (λ t. gives (Ok (escaped t))) (repr_of_silent v h) (λ t. refl)

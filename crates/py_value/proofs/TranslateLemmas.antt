@@ -4,11 +4,11 @@ use Rattle.std.specs.Prelude.{MatchResult}
 use Rattle.std.specs.Char.{encode_utf8}
 use Rattle.std.proofs.lemmas.Str.{chars_past_char}
 use Rattle.py_base.specs.declared.error.PyError.{PyError}
-use Rattle.py_value.specs.Asking.{Seen, Answers, UnlessOutOfMemory, Meets}
+use Rattle.py_value.specs.Asking.{Seen, Answers, Comes, UnlessOutOfMemory, Meets}
 use Rattle.py_value.specs.Lookup.{item}
 use Rattle.py_value.specs.Plain.{Plain, int}
-use Rattle.py_value.specs.Translate.{Puts, Goes, GoesOn, put_found, put_looked_up}
-use Rattle.py_value.proofs.AskingLemmas.{unless_map}
+use Rattle.py_value.specs.Translate.{Puts, Goes, GoesOn, Translates, has_items, put_found, put_looked_up}
+use Rattle.py_value.proofs.AskingLemmas.{unless_map, unless_free}
 use Rattle.py_value.proofs.TextLemmas.{no_chars}
 
 -- a look-up that gave a value, and what was put for it
@@ -65,3 +65,18 @@ stop_turn v bs rest c out s0 s1 e u is one =
 
 pub last_turn : (v : Plain) (bs out : List ℕ) (s : Seen) → length bs ≡ 0 → GoesOn v (chars bs) out s s (Ok out)
 last_turn v bs out s n = subst (λ (l : List ℕ). GoesOn v l out s s (Ok out)) (sym (no_chars bs n)) (ends v out s)
+
+-- the table was tested, and then each character
+pub translated : {v : Plain} {cs : List ℕ} {s0 s1 : Seen} {r : Result (List ℕ) PyError} → Comes s0 s0 (has_items v) (Ok tt) → GoesOn v cs [] s0 s1 r → Translates v cs s0 s1 r
+translated {v = v} {cs = cs} {s0 = s0} {s1 = s1} {r = r} has more = record {
+  kept = more.kept;
+  later = more.later;
+  comes = unless_map r (Goes v cs [] s0 s1 r) ((x : Result (Unit {0}) PyError) × Comes s0 s0 (has_items v) x × MatchResult x (λ u. Goes v cs [] s0 s1 r) (λ e. (r ≡ Err e) × (s1 ≡ s0))) (λ h. (Ok tt, has, h)) more.comes;
+}
+
+pub not_tested : {v : Plain} {cs : List ℕ} {s0 : Seen} {e : PyError} → Comes s0 s0 (has_items v) (Err e) → Translates v cs s0 s0 (Err e)
+not_tested {v = v} {cs = cs} {s0 = s0} {e = e} has = record {
+  kept = refl;
+  later = omega arith;
+  comes = unless_free {A = List ℕ} (Err e) ((x : Result (Unit {0}) PyError) × Comes s0 s0 (has_items v) x × MatchResult x (λ u. Goes v cs [] s0 s0 (Err e)) (λ d. (Err e ≡ Err d) × (s0 ≡ s0))) (Err e, has, (refl, refl));
+}

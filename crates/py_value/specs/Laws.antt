@@ -4,29 +4,36 @@ use Rattle.py_base.specs.Stream.Faults.{Rose}
 use Rattle.py_base.specs.declared.error.PyError.{PyError}
 use Rattle.py_base.specs.declared.error.PyError.TheVariants.{NoMemory, HostFault}
 use Rattle.py_value.specs.Asking.{Asking, Answers, Seen, Table, by_table, silent, Fails}
-use Rattle.py_value.specs.Lookup.{item, item_error}
+use Rattle.py_value.specs.Lookup.{item, item_error, attr, attr_error}
 use Rattle.py_value.specs.Plain.{Plain, bare}
-use Rattle.py_value.specs.Printing.{repr_of}
+use Rattle.py_value.specs.Printing.{repr_of, str_of, ascii_of, print_error}
 
--- where the host tells its table, an answer is the table's, or want of memory, or a fault of a host whose count rose
+-- where the host tells its table, an answer is the table's, or memory ran out, or the host failed and its count rose
 abbrev pub AnswersTheTable : Type 0 → Type 0
 AnswersTheTable A = (call : Asking A) (old new : Seen) (t : Table) (result : Result A PyError) → Answers call old new result → old.table ≡ Some t
     → (result ≡ by_table t call) ⊎ (result ≡ Err NoMemory) ⊎ ((result ≡ Err HostFault) × Rose old.faults new.faults)
 
--- a call that asks nothing answers for every host what it does for any table, or want of memory
+-- a call that asks nothing answers for every host what it does under any table, unless memory ran out
 abbrev pub AnswersAlone : Type 0 → Type 0
 AnswersAlone A = (call : Asking A) (old new : Seen) (t : Table) (result : Result A PyError) → Answers call old new result → silent call ≡ true
     → (result ≡ by_table t call) ⊎ (result ≡ Err NoMemory)
 
--- a value without handles is looked into and printed alone
+-- a value without handles is looked into and printed without a question
 abbrev pub BareIsSilent : Type 0
-BareIsSilent = (v k : Plain) → bare v ≡ true → (silent (item v k) ≡ true) × (silent (repr_of v) ≡ true)
+BareIsSilent = (v k : Plain) → bare v ≡ true →
+    (silent (item v k) ≡ true) × (silent (repr_of v) ≡ true) × (silent (str_of v) ≡ true) × (silent (ascii_of v) ≡ true)
 
--- a refusal is one that the call may come to, for every host, or want of memory, or a fault of a host whose count rose
+-- an error is one that the call may come to, for every host, or memory ran out, or the host failed and its count rose
 abbrev pub ErrorsAreNamed : Type 0 → Type 0
 ErrorsAreNamed A = (named : PyError → Bool) (call : Asking A) (old new : Seen) (e : PyError) → Fails named call → Answers call old new (Err e)
     → (named e ≡ true) ⊎ (e ≡ NoMemory) ⊎ ((e ≡ HostFault) × Rose old.faults new.faults)
 
--- the refusals of `v[k]` are these
+-- the errors of `v[k]`, of `v.name` and of printed values are these
 abbrev pub ItemErrors : Type 0
 ItemErrors = (v k : Plain) → Fails item_error (item v k)
+
+abbrev pub AttrErrors : Type 0
+AttrErrors = (v : Plain) (name : List ℕ) → Fails attr_error (attr v name)
+
+abbrev pub PrintErrors : Type 0
+PrintErrors = (v : Plain) → Fails print_error (repr_of v) × Fails print_error (str_of v) × Fails print_error (ascii_of v)

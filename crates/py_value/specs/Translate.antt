@@ -1,38 +1,42 @@
 -- Texts whose characters a table replaces: `str.translate` and `str.maketrans`.
-use Rattle.std.specs.Prelude.{◌≡◌, ◌≤◌, ℕ, zero, suc, nat_eq, if◌then◌else◌, Bool, true, false, List, [], ◌∷◌, ◌++◌, length, ℤ, pos, negsuc, Option, Some, None, Result, Ok, Err, ok_or, MatchResult}
-use lib.Utf8.{scalar}
+use Rattle.std.specs.Prelude.{◌≡◌, ◌≤◌, ℕ, nat_lt, nat_le, ◌&&◌, ◌||◌, if◌then◌else◌, Bool, List, [], ◌∷◌, ◌++◌, ℤ, pos, negsuc, Option, Some, None, Result, Ok, Err, MatchResult}
 use Rattle.py_base.specs.declared.error.causes.TranslateKind.TheVariants.{Range, Kind}
-use Rattle.py_base.specs.declared.error.type_names.ClassName.TheVariants.{NoneType, Bool as BoolClass, Int as IntClass, Object}
+use Rattle.py_base.specs.declared.error.type_names.ClassName.TheVariants.{Object}
 use Rattle.py_base.specs.declared.error.PyError.{PyError}
 use Rattle.py_base.specs.declared.error.PyError.TheVariants.{NoMemory, NotSubscriptable, Translate}
+use Rattle.py_int.specs.Boolean.{int_of_bool}
 use Rattle.py_value.specs.Asking.{Asking, gives, tests, Answers, Comes, Seen, UnlessOutOfMemory}
-use Rattle.py_value.specs.Classes.{class_of, integer_of}
+use Rattle.py_value.specs.Classes.{class_of}
 use Rattle.py_value.specs.Lookup.{item}
-use Rattle.py_value.specs.Plain.{Plain, none, bool, int, str, handle}
+use Rattle.py_value.specs.Plain.{Plain, none, bool, int, str, bytes, tuple, list, dict, handle}
 
 -- a value that has items: a text, bytes, a tuple, a list, a dict, or a handle whose host says so
 abbrev pub has_items : Plain → Asking (Unit {0})
-has_items none = gives (Err (NotSubscriptable NoneType))
-has_items (bool b) = gives (Err (NotSubscriptable BoolClass))
-has_items (int z) = gives (Err (NotSubscriptable IntClass))
+has_items (str cs) = gives (Ok tt)
+has_items (bytes bs) = gives (Ok tt)
+has_items (tuple vs) = gives (Ok tt)
+has_items (list vs) = gives (Ok tt)
+has_items (dict es) = gives (Ok tt)
 has_items (handle h) = tests h (λ has. gives (if has then Ok tt else Err (NotSubscriptable Object)))
-has_items _ = gives (Ok tt)
+has_items v = gives (Err (NotSubscriptable (class_of v)))
 
 -- the character of a number
 abbrev pub char_of : ℤ → Option ℕ
-char_of (pos n) = if scalar n then Some n else None
+char_of (pos n) = if nat_lt n 0xD800 || (nat_le 0xE000 n && nat_lt n 0x110000) then Some n else None
 char_of (negsuc n) = None
 
--- a text with the character of an integer after it
-abbrev pub put_integer : List ℕ → Option ℤ → Result (List ℕ) PyError
-put_integer out None = Err (Translate Kind)
-put_integer out (Some z) = elim (char_of z) [ None ↦ Err (Translate Range) | Some c ↦ Ok (out ++ c ∷ []) ]
+-- a text with a character after it, where there is one
+abbrev pub put_char : List ℕ → Option ℕ → Result (List ℕ) PyError
+put_char out None = Err (Translate Range)
+put_char out (Some c) = Ok (out ++ c ∷ [])
 
 -- a text with what was found for a character after it: nothing, a text, or a character
 abbrev pub put_found : List ℕ → Plain → Result (List ℕ) PyError
 put_found out none = Ok out
 put_found out (str cs) = Ok (out ++ cs)
-put_found out v = put_integer out (integer_of v)
+put_found out (bool b) = put_char out (char_of (int_of_bool b))
+put_found out (int z) = put_char out (char_of z)
+put_found out v = Err (Translate Kind)
 
 -- and with a character that was looked up; it is kept where the look-up failed
 abbrev pub put_looked_up : ℕ → List ℕ → Result Plain PyError → Result (List ℕ) PyError

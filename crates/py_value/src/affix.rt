@@ -1,7 +1,7 @@
 //! Whether a text begins or ends with a value, and one of its characters.
 
-ghost use Rattle.std.specs.Prelude.{◌≡◌, ℕ, min, nat_le};
-ghost use Rattle.py_text.specs.Window.{counted_place};
+ghost use Rattle.std.specs.Prelude.{◌≡◌};
+ghost use Rattle.py_text.specs.Window.{counted_place, window_start, window_end};
 ghost use Rattle.py_value.specs.Affix as spec;
 ghost use Rattle.py_value.specs.Asking.{Meets};
 ghost use Rattle.py_value.specs.Lookup.{index_of as index_value};
@@ -40,22 +40,34 @@ fn counted(len: usize, place: i128) -> u128
     }
 }
 
-impl Place {
-    // Whether the window of `len` code points begins not past its end.
-    fn has_window(&self, len: usize) -> bool
-        ensures { result ≡ spec.has_window len self.now.start self.now.end }
-    {
-        let from = match self.start {
-            Some(place) => counted(len, place),
-            None => 0,
-        };
-        let to = match self.end {
-            Some(place) => counted(len, place).min(len as u128),
-            None => len as u128,
-        };
-        from <= to
+// Where a window of `len` code points begins.
+fn window_from(len: usize, start: Option<i128>) -> u128
+    ensures { result ≡ window_start len start }
+{
+    match start {
+        Some(place) => counted(len, place),
+        None => 0,
     }
+}
 
+// Where a window of `len` code points ends.
+fn window_to(len: usize, end: Option<i128>) -> u128
+    ensures { result ≡ window_end len end }
+{
+    match end {
+        Some(place) => counted(len, place).min(len as u128),
+        None => len as u128,
+    }
+}
+
+// Whether the window of `len` code points begins not past its end.
+fn has_window(len: usize, start: Option<i128>, end: Option<i128>) -> bool
+    ensures { result ≡ spec.has_window len start end }
+{
+    window_from(len, start) <= window_to(len, end)
+}
+
+impl Place {
     // Whether the affix is at the side of the text's window.
     fn fits(&self, text: &PyStr, affix: &PyStr) -> bool
         ensures { result ≡ sides.fits self.now text.now affix.now }
@@ -92,7 +104,7 @@ impl Place {
     pub(crate) fn affix_fits(&self, text: &PyStr, affix: &Value) -> PyResult<bool>
         ensures { result ≡ sides.answer self.now text.now (plain_of affix.now) }
     {
-        if !self.has_window(text.len()) {
+        if !has_window(text.len(), self.start, self.end) {
             return Ok(false);
         }
         match affix {

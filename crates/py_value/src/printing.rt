@@ -249,7 +249,7 @@ fn answered_text(alloc: Global, answer: &Value) -> PyResult<PyStr>
 {
     match answer {
         Value::Str(text) => Ok(text.try_clone(alloc)?),
-        _ => Err(PyError::Downcast(ClassName::Str, answer.class())),
+        other => Err(PyError::Downcast(ClassName::Str, other.class())),
     }
 }
 

@@ -1,17 +1,16 @@
 //! Texts whose characters a table replaces.
 
-ghost use Rattle.std.specs.Prelude.{◌≡◌, [], ◌∷◌, ◌++◌, chars, OnOk, IsOkUnless, ok_or};
+ghost use Rattle.std.specs.Prelude.{◌≡◌, [], ◌∷◌, ◌++◌, chars, OnOk, IsOkUnless};
 ghost use Rattle.py_value.specs.Asking.{Comes, Meets};
 ghost use Rattle.py_value.specs.Printing.{written};
 ghost use Rattle.py_value.specs.Translate as spec;
 ghost use Rattle.py_value.specs.ValueView.{plain_of};
-ghost use Rattle.py_base.specs.declared.error.causes.TranslateKind.TheVariants.{Range};
 
 use crate::host::Host;
 use crate::lookup::get_item;
 use crate::value::Value;
 use py_base::{ClassName, PyError, PyResult, TranslateKind};
-use py_int::PyInt;
+use py_int::{PyBool, PyInt};
 use py_text::PyStr;
 use std::alloc::Global;
 
@@ -20,9 +19,7 @@ fn test_items<H: Host>(host: &H, table: &Value) -> PyResult<()>
     ensures { Comes (H.seen host.now) (H.seen host.now) (spec.has_items (plain_of table.now)) result }
 {
     match table {
-        Value::None | Value::Bool(_) | Value::Int(_) => {
-            Err(PyError::NotSubscriptable(table.class()))
-        }
+        Value::Str(_) | Value::Bytes(_) | Value::Tuple(_) | Value::List(_) | Value::Dict(_) => Ok(()),
         Value::Handle(handle) => {
             if host.has_getitem(*handle) {
                 Ok(())
@@ -30,20 +27,17 @@ fn test_items<H: Host>(host: &H, table: &Value) -> PyResult<()>
                 Err(PyError::NotSubscriptable(ClassName::Object))
             }
         }
-        _ => Ok(()),
+        _ => Err(PyError::NotSubscriptable(table.class())),
     }
 }
 
 // The character of a number.
-fn char_of(number: PyInt) -> PyResult<char>
-    ensures { result ≡ ok_or (spec.char_of number) (PyError.Translate Range) }
+fn char_of(number: PyInt) -> Option<char>
+    ensures { result ≡ spec.char_of number }
 {
-    let Ok(code) = u32::try_from(number.as_i128()) else {
-        return Err(PyError::Translate(TranslateKind::Range));
-    };
-    match char::from_u32(code) {
-        Some(c) => Ok(c),
-        None => Err(PyError::Translate(TranslateKind::Range)),
+    match u32::try_from(number.as_i128()) {
+        Ok(code) => char::from_u32(code),
+        Err(_) => None,
     }
 }
 
@@ -57,14 +51,16 @@ fn put_char(alloc: Global, out: &mut PyStr, c: char) -> PyResult<()>
 }
 
 // Puts the character of an integer at the end.
-fn put_integer(alloc: Global, out: &mut PyStr, number: Option<PyInt>) -> PyResult<()>
-    ensures { Meets (spec.put_integer out.old number) (written result out.new) }
+fn put_integer(alloc: Global, out: &mut PyStr, number: PyInt) -> PyResult<()>
+    ensures { Meets (spec.put_char out.old (spec.char_of number)) (written result out.new) }
 {
-    let Some(number) = number else {
-        return Err(PyError::Translate(TranslateKind::Kind));
-    };
-    put_char(alloc, out, char_of(number)?)?;
-    Ok(())
+    match char_of(number) {
+        Some(c) => {
+            put_char(alloc, out, c)?;
+            Ok(())
+        }
+        None => Err(PyError::Translate(TranslateKind::Range)),
+    }
 }
 
 // Puts what was found for a character at the end.
@@ -77,7 +73,9 @@ fn put_found(alloc: Global, out: &mut PyStr, found: &Value) -> PyResult<()>
             out.append(text.as_str())?;
             Ok(())
         }
-        _ => put_integer(alloc, out, found.as_integer()),
+        Value::Bool(value) => put_integer(alloc, out, PyBool::new(*value).as_int()),
+        Value::Int(number) => put_integer(alloc, out, *number),
+        _ => Err(PyError::Translate(TranslateKind::Kind)),
     }
 }
 
