@@ -97,7 +97,7 @@ by_no_table (tests q next) r s0 s1 t is h = absurd (cc)
 pub out_of_memory : {A : Type 0} {call : Asking A} {s : Seen} → Answers call s s (Err NoMemory)
 out_of_memory = record { kept = refl; later = omega arith; comes = tt }
 
-unless_or : {A : Type 0} (r : Result A PyError) (P : Type 0) → UnlessOutOfMemory r P → P ⊎ (r ≡ Err NoMemory)
+pub unless_or : {A : Type 0} (r : Result A PyError) (P : Type 0) → UnlessOutOfMemory r P → P ⊎ (r ≡ Err NoMemory)
 unless_or (Ok a) P h = inl h
 unless_or (Err NoMemory) P h = inr refl
 unless_or (Err e) P h = inl h

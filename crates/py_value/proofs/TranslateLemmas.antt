@@ -1,10 +1,11 @@
 -- How each character goes into the whole text that a table changes.
-use Rattle.std.proofs.Common.{◌≡◌, ◌∙◌, ◌≤◌, ℕ, pos, List, [], ◌∷◌, ◌++◌, Result, Ok, Err, refl, sym, ap, subst, arith, length, chars, IsUtf8}
+use Rattle.std.proofs.Common.{◌≡◌, ◌∙◌, ◌≤◌, Bool, true, false, cond, ℕ, pos, List, [], ◌∷◌, ◌++◌, Result, Ok, Err, refl, sym, ap, subst, arith, length, chars, IsUtf8}
 use Rattle.std.specs.Prelude.{MatchResult}
 use Rattle.std.specs.Char.{encode_utf8}
 use Rattle.std.proofs.lemmas.Str.{chars_past_char}
 use Rattle.py_base.specs.declared.error.PyError.{PyError}
-use Rattle.py_value.specs.Asking.{Seen, Answers, Comes, UnlessOutOfMemory, Meets}
+use Rattle.py_base.specs.declared.error.PyError.TheVariants.{NoMemory}
+use Rattle.py_value.specs.Asking.{Seen, Answers, Comes, no_memory, UnlessOutOfMemory, Meets}
 use Rattle.py_value.specs.Lookup.{item}
 use Rattle.py_value.specs.Plain.{Plain, int}
 use Rattle.py_value.specs.Translate.{Puts, Goes, GoesOn, Translates, has_items, put_found, put_looked_up}
@@ -19,12 +20,19 @@ found {v = v} {c = c} {out = out} {s0 = s0} {s1 = s1} {w = w} {r = r} a m = reco
   comes = unless_map r (r ≡ put_found out w) ((x : Result Plain PyError) × Answers (item v (int (pos c))) s0 s1 x × (r ≡ put_looked_up c out x)) (λ is. (Ok w, a, is)) m;
 }
 
+other_error : (e : PyError) → (e ≡ NoMemory → ⊥) → no_memory e ≡ false
+other_error NoMemory h = absurd (h refl)
+other_error e h = refl
+
+kept_is : (c : ℕ) (out : List ℕ) (e : PyError) → no_memory e ≡ false → put_looked_up c out (Err e) ≡ Ok (out ++ c ∷ [])
+kept_is c out e h = ap (λ (b : Bool). cond b (Err NoMemory) (Ok (out ++ c ∷ []))) h
+
 -- a look-up that failed
-pub not_found : {v : Plain} {c : ℕ} {out : List ℕ} {s0 s1 : Seen} {e : PyError} {r : Result (List ℕ) PyError} → Answers (item v (int (pos c))) s0 s1 (Err e) → Meets (Ok (out ++ c ∷ [])) r → Puts v c out s0 s1 r
-not_found {v = v} {c = c} {out = out} {s0 = s0} {s1 = s1} {e = e} {r = r} a m = record {
+pub not_found : {v : Plain} {c : ℕ} {out : List ℕ} {s0 s1 : Seen} {e : PyError} {r : Result (List ℕ) PyError} → (e ≡ NoMemory → ⊥) → Answers (item v (int (pos c))) s0 s1 (Err e) → Meets (Ok (out ++ c ∷ [])) r → Puts v c out s0 s1 r
+not_found {v = v} {c = c} {out = out} {s0 = s0} {s1 = s1} {e = e} {r = r} other a m = record {
   kept = a.kept;
   later = a.later;
-  comes = unless_map r (r ≡ Ok (out ++ c ∷ [])) ((x : Result Plain PyError) × Answers (item v (int (pos c))) s0 s1 x × (r ≡ put_looked_up c out x)) (λ is. (Err e, a, is)) m;
+  comes = unless_map r (r ≡ Ok (out ++ c ∷ [])) ((x : Result Plain PyError) × Answers (item v (int (pos c))) s0 s1 x × (r ≡ put_looked_up c out x)) (λ is. (Err e, a, is ∙ sym (kept_is c out e (other_error e other)))) m;
 }
 
 one_then : (v : Plain) (c : ℕ) (cs out mid : List ℕ) (s0 s1 s2 : Seen) (r : Result (List ℕ) PyError) → Puts v c out s0 s1 (Ok mid) → Goes v cs mid s1 s2 r → Goes v (c ∷ cs) out s0 s2 r

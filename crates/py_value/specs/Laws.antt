@@ -1,11 +1,12 @@
 -- Laws of calls with a host.
-use Rattle.std.specs.Prelude.{◌≡◌, ◌⊎◌, Bool, List, ℕ, true, Some, Result, Err}
+use Rattle.std.specs.Prelude.{◌≡◌, ◌⊎◌, Bool, List, [], ℕ, true, Some, Result, Err}
 use Rattle.py_base.specs.Stream.Faults.{Rose}
 use Rattle.py_base.specs.declared.error.PyError.{PyError}
 use Rattle.py_base.specs.declared.error.PyError.TheVariants.{NoMemory, HostFault}
 use Rattle.py_value.specs.Asking.{Asking, Answers, Seen, Table, by_table, silent, Fails}
 use Rattle.py_value.specs.Lookup.{item, item_error, attr, attr_error}
 use Rattle.py_value.specs.Plain.{Plain, bare}
+use Rattle.py_value.specs.Translate.{Translates, translated_by, set_marks, RoseBy}
 use Rattle.py_value.specs.Printing.{repr_of, str_of, ascii_of, print_error}
 
 -- where the host tells its table, an answer is the table's, or memory ran out, or the host failed and its count rose
@@ -37,3 +38,14 @@ AttrErrors = (v : Plain) (name : List ℕ) → Fails attr_error (attr v name)
 
 abbrev pub PrintErrors : Type 0
 PrintErrors = (v : Plain) → Fails print_error (repr_of v) × Fails print_error (str_of v) × Fails print_error (ascii_of v)
+
+-- where the host tells its table, a translated text is the table's; a character whose look-up failed for a fault is kept,
+-- and there are at most as many of these as the count rose by
+abbrev pub TranslatesByTheTable : Type 0
+TranslatesByTheTable = (t : Table) (v : Plain) (cs : List ℕ) (old new : Seen) (result : Result (List ℕ) PyError) → Translates v cs old new result → old.table ≡ Some t
+    → (result ≡ Err NoMemory) ⊎ ((marks : List Bool) × (result ≡ translated_by t v marks cs) × RoseBy (set_marks marks) old.faults new.faults)
+
+-- by a value that holds no handle a text is translated as under any table
+abbrev pub TranslatesAlone : Type 0
+TranslatesAlone = (t : Table) (v : Plain) (cs : List ℕ) (old new : Seen) (result : Result (List ℕ) PyError) → Translates v cs old new result → bare v ≡ true
+    → (result ≡ Err NoMemory) ⊎ (result ≡ translated_by t v [] cs)
