@@ -1,7 +1,6 @@
 -- What is copied and what is still to copy make the whole result.
-use Rattle.std.proofs.Common.{◌≡◌, ◌⊎◌, inl, inr, ℕ, zero, suc, ◌+◌, ◌*◌, ◌≤◌, ◌<◌, Bool, true, false, cond, leb, ltb, eqb, min, List, [], ◌∷◌, ◌++◌, length, take, drop, Option, Some, None, refl, sym, ap, subst, ◌∙◌, append_assoc, encode_utf8_all, arith}
+use Rattle.std.proofs.Common.{◌≡◌, ◌⊎◌, inl, inr, ℕ, zero, suc, ◌+◌, ◌*◌, ◌≤◌, ◌<◌, Bool, true, false, cond, leb, ltb, eqb, min, List, [], ◌∷◌, ◌++◌, length, take, drop, Option, Some, None, refl, sym, ap, subst, ◌∙◌, encode_utf8_all, arith}
 use Rattle.std.specs.Prelude.{slice_range}
-use Rattle.std.proofs.lemmas.Str.{encodes-append}
 use Rattle.std.proofs.lemmas.List.{take_all}
 use Rattle.std.proofs.lemmas.Bool.{eqb-true, leb-true, leb-false, ltb-true}
 use Rattle.sre_code.specs.PlainTree.{PlainTree}
@@ -10,6 +9,7 @@ use Rattle.sre_match.specs.Search.{Search, NextStart, start_of, start_after}
 use Rattle.sre_commands.specs.Commands.Sub.Filling.{Replacement, fill, result_from, result_of}
 use Rattle.sre_match.proofs.Spans.{Follows, next_follows, turns, turns_fall, wanted, wanted_first, wanted_none, wanted_full, wanted_some}
 use Rattle.sre_commands.specs.Commands.Sub.Answer.{is_reached, up_to}
+use Rattle.sre_commands.proofs.PartLemmas.{three_parts}
 
 -- the UTF-8 of so much of a result is copied, up to the place of the walk
 pub record Copied (list : Replacement) (s : List ℕ) (t : PlainTree) (limit count : ℕ) (next_start : NextStart) (place : ℕ) (bytes : List ℕ) : Type 0 where
@@ -81,15 +81,6 @@ follows_is list s t limit count next_start place units x k e =
     let n = next_is s t limit count next_start x e in
     let f = next_follows t s next_start.place next_start.advance false x (omega (arith, k.place_is, k.within)) n.next in
     subst (λ (q : ℕ). Follows s q next_start.advance x) (sym k.place_is) f
-
--- the UTF-8 of three parts, one appended after another
-three_parts : (was gap filled rest new : List ℕ) → new ≡ (was ++ encode_utf8_all gap) ++ encode_utf8_all filled → new ++ encode_utf8_all rest ≡ was ++ encode_utf8_all (gap ++ (filled ++ rest))
-three_parts was gap filled rest new e =
-    ap (λ (l : List ℕ). l ++ encode_utf8_all rest) e
-    ∙ append_assoc (was ++ encode_utf8_all gap) (encode_utf8_all filled) (encode_utf8_all rest)
-    ∙ append_assoc was (encode_utf8_all gap) (encode_utf8_all filled ++ encode_utf8_all rest)
-    ∙ ap (λ (l : List ℕ). was ++ (encode_utf8_all gap ++ l)) (sym (encodes-append filled rest))
-    ∙ ap (λ (l : List ℕ). was ++ l) (sym (encodes-append gap (filled ++ rest)))
 
 -- one gap and one filled template more
 pub copied_more : (list : Replacement) (s : List ℕ) (t : PlainTree) (limit count : ℕ) (next_start after : NextStart) (place : ℕ) (was new : List ℕ) (x : Span)
