@@ -1,6 +1,7 @@
 -- What is copied and what is still to copy make the whole result.
-use Rattle.std.proofs.Common.{◌≡◌, ◌⊎◌, inl, inr, ℕ, zero, suc, ◌+◌, ◌*◌, ◌≤◌, ◌<◌, Bool, true, false, cond, leb, ltb, eqb, min, List, [], ◌∷◌, ◌++◌, length, take, drop, Option, Some, None, refl, sym, ap, subst, ◌∙◌, append_assoc, arith}
+use Rattle.std.proofs.Common.{◌≡◌, ◌⊎◌, inl, inr, ℕ, zero, suc, ◌+◌, ◌*◌, ◌≤◌, ◌<◌, Bool, true, false, cond, leb, ltb, eqb, min, List, [], ◌∷◌, ◌++◌, length, take, drop, Option, Some, None, refl, sym, ap, subst, ◌∙◌, append_assoc, encode_utf8_all, arith}
 use Rattle.std.specs.Prelude.{slice_range}
+use Rattle.std.proofs.lemmas.Str.{encodes-append}
 use Rattle.std.proofs.lemmas.List.{take_all}
 use Rattle.std.proofs.lemmas.Bool.{eqb-true, leb-true, leb-false, ltb-true}
 use Rattle.sre_code.specs.PlainTree.{PlainTree}
@@ -10,11 +11,11 @@ use Rattle.sre_match.specs.Filling.{Replacement, fill, result_from, result_of}
 use Rattle.sre_match.proofs.Spans.{Follows, next_follows, turns, turns_fall, wanted, wanted_first, wanted_none, wanted_full, wanted_some}
 use Rattle.sre_commands.specs.Commands.Sub.Answer.{is_reached, up_to}
 
--- so much of a result is copied, up to a place where the walk stands
-pub record Copied (list : Replacement) (s : List ℕ) (t : PlainTree) (limit count : ℕ) (next_start : NextStart) (place : ℕ) (units : List ℕ) : Type 0 where
+-- the UTF-8 of so much of a result is copied, up to the place of the walk
+pub record Copied (list : Replacement) (s : List ℕ) (t : PlainTree) (limit count : ℕ) (next_start : NextStart) (place : ℕ) (bytes : List ℕ) : Type 0 where
   pub place_is : place ≡ next_start.place
   pub within : place ≤ length s
-  pub whole : units ++ result_from place s (wanted limit count t s next_start.place next_start.advance) list ≡ result_of s (spans t s 0 limit) list
+  pub whole : bytes ++ encode_utf8_all (result_from place s (wanted limit count t s next_start.place next_start.advance) list) ≡ encode_utf8_all (result_of s (spans t s 0 limit) list)
   pub number : count + length (wanted limit count t s next_start.place next_start.advance) ≡ length (spans t s 0 limit)
   pub room : count + turns s next_start.place next_start.advance ≤ 2 * length s + 1
 
@@ -24,7 +25,7 @@ copied_start list s t limit next_start is =
     let made : Copied list s t limit 0 start 0 [] = record {
       place_is = refl;
       within = omega arith;
-      whole = ap (λ (xs : List Span). result_from 0 s xs list) (wanted_first limit t s);
+      whole = ap (λ (xs : List Span). encode_utf8_all (result_from 0 s xs list)) (wanted_first limit t s);
       number = ap (λ (xs : List Span). 0 + length xs) (wanted_first limit t s) ∙ omega arith;
       room = omega arith;
     } in
@@ -81,14 +82,23 @@ follows_is list s t limit count next_start place units x k e =
     let f = next_follows t s next_start.place next_start.advance false x (omega (arith, k.place_is, k.within)) n.next in
     subst (λ (q : ℕ). Follows s q next_start.advance x) (sym k.place_is) f
 
--- one gap and one filled list more
-pub copied_more : (list : Replacement) (s : List ℕ) (t : PlainTree) (limit count : ℕ) (next_start after : NextStart) (place : ℕ) (was mid new : List ℕ) (x : Span)
+-- the UTF-8 of three parts, one appended after another
+three_parts : (was gap filled rest new : List ℕ) → new ≡ (was ++ encode_utf8_all gap) ++ encode_utf8_all filled → new ++ encode_utf8_all rest ≡ was ++ encode_utf8_all (gap ++ (filled ++ rest))
+three_parts was gap filled rest new e =
+    ap (λ (l : List ℕ). l ++ encode_utf8_all rest) e
+    ∙ append_assoc (was ++ encode_utf8_all gap) (encode_utf8_all filled) (encode_utf8_all rest)
+    ∙ append_assoc was (encode_utf8_all gap) (encode_utf8_all filled ++ encode_utf8_all rest)
+    ∙ ap (λ (l : List ℕ). was ++ (encode_utf8_all gap ++ l)) (sym (encodes-append filled rest))
+    ∙ ap (λ (l : List ℕ). was ++ l) (sym (encodes-append gap (filled ++ rest)))
+
+-- one gap and one filled template more
+pub copied_more : (list : Replacement) (s : List ℕ) (t : PlainTree) (limit count : ℕ) (next_start after : NextStart) (place : ℕ) (was new : List ℕ) (x : Span)
     → Copied list s t limit count next_start place was
     → Some x ≡ up_to limit count (next_span t s next_start.place next_start.advance false)
     → after ≡ start_after (up_to limit count (next_span t s next_start.place next_start.advance false)) next_start
-    → mid ≡ was ++ slice_range s place x.start → new ≡ mid ++ fill list s x
+    → new ≡ (was ++ encode_utf8_all (slice_range s place x.start)) ++ encode_utf8_all (fill list s x)
     → Copied list s t limit (count + 1) after x.stop new
-copied_more list s t limit count next_start after place was mid new x k e moved m n =
+copied_more list s t limit count next_start after place was new x k e moved n =
     let next = next_is s t limit count next_start x e in
     let q = next_start.place in
     let le : q ≤ length s = omega (arith, k.place_is, k.within) in
@@ -96,12 +106,12 @@ copied_more list s t limit count next_start after place was mid new x k e moved 
     let falls = turns_fall s q next_start.advance x f in
     let one : wanted limit count t s q next_start.advance ≡ x ∷ wanted limit (count + 1) t s x.stop (is_empty_span x) = wanted_some limit count t s q next_start.advance x le next.short next.next in
     let rest = result_from x.stop s (wanted limit (count + 1) t s x.stop (is_empty_span x)) list in
-    let before : was ++ (slice_range s place x.start ++ (fill list s x ++ rest)) ≡ result_of s (spans t s 0 limit) list = (rw one at k.whole) in
+    let before : was ++ encode_utf8_all (slice_range s place x.start ++ (fill list s x ++ rest)) ≡ encode_utf8_all (result_of s (spans t s 0 limit) list) = (rw one at k.whole) in
     let there : NextStart = record { place = x.stop; advance = is_empty_span x } in
     let made : Copied list s t limit (count + 1) there x.stop new = record {
       place_is = refl;
       within = f.to;
-      whole = rw (n, m) (append_assoc (was ++ slice_range s place x.start) (fill list s x) rest ∙ append_assoc was (slice_range s place x.start) (fill list s x ++ rest) ∙ before);
+      whole = three_parts was (slice_range s place x.start) (fill list s x) rest new n ∙ before;
       number = let long = ap length one in omega (arith, long, k.number);
       room = omega (arith, falls, k.room);
     } in
@@ -111,7 +121,7 @@ copied_more list s t limit count next_start after place was mid new x k e moved 
 pub copied_end : (list : Replacement) (s : List ℕ) (t : PlainTree) (limit count : ℕ) (next_start : NextStart) (place : ℕ) (was new : List ℕ)
     → Copied list s t limit count next_start place was
     → None ≡ up_to limit count (next_span t s next_start.place next_start.advance false)
-    → new ≡ was ++ drop place s → (new ≡ result_of s (spans t s 0 limit) list) × (count ≡ length (spans t s 0 limit))
+    → new ≡ was ++ encode_utf8_all (drop place s) → (new ≡ encode_utf8_all (result_of s (spans t s 0 limit) list)) × (count ≡ length (spans t s 0 limit))
 copied_end list s t limit count next_start place was new k e n =
     let none = none_is s t limit count next_start e in
     (n ∙ (rw none at k.whole), (let long = ap length none in omega (arith, long, k.number)))
@@ -123,7 +133,7 @@ over_same u t v s limit count q advance o et es e = rw (← et, ← es) e
 pub moved_same : (u t : PlainTree) (v s : List ℕ) (limit count : ℕ) (next_start after : NextStart) → u ≡ t → v ≡ s → after ≡ start_after (up_to limit count (next_span u v next_start.place next_start.advance false)) next_start → after ≡ start_after (up_to limit count (next_span t s next_start.place next_start.advance false)) next_start
 moved_same u t v s limit count next_start after et es e = rw (← et, ← es) e
 
--- behind a span the walk stands nearer to its end
+-- after a span the walk is nearer to its end
 pub falls : (list : Replacement) (s : List ℕ) (t : PlainTree) (limit count : ℕ) (next_start after : NextStart) (place : ℕ) (was : List ℕ) (x : Span)
     → Copied list s t limit count next_start place was
     → Some x ≡ up_to limit count (next_span t s next_start.place next_start.advance false)

@@ -8,12 +8,10 @@ use std::sync::ledger::Ledger;
 
 mod bytes;
 mod metered;
-mod place;
 mod text;
 
 pub use bytes::ByteView;
 pub use metered::{MeteredView, metered_search};
-pub use place::PlaceView;
 pub use text::TextView;
 
 /// A place of a subject, counted in units from its beginning, and the bytes before it, where units

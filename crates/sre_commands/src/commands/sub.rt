@@ -2,6 +2,7 @@
 
 pub mod answer;
 mod filling;
+mod parts;
 mod reader;
 pub mod request;
 pub mod template;

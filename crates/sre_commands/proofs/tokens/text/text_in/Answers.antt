@@ -35,10 +35,10 @@ returns-clause-found c =
     let h = strip_prefix_is Decides-eqb c.args.bytes.now (116 ∷ []) c.strip_prefix.result c.strip_prefix.ensures.cases in
     let some : c.args.bytes.now ≡ 116 ∷ c.in-Some.digits.now = rw c.in-Some.is at h in
     let text : string_bytes c.in-Ok.text ≡ c.in_ok-bytes_of.field-0.items = cc (c.in-Ok.ensures.ok) in
-    let points : encode_utf8_all c.in_ok-code_points.field-0.items ≡ c.in_ok-bytes_of.field-0.items =
-    ap encode_utf8_all (c.in_ok-code_points.ensures ∙ ap chars c.deref.ensures) ∙ encodes-chars (string_bytes c.in-Ok.text) (IsUtf8-string_bytes c.in-Ok.text) ∙ text in
+    let points : encode_utf8_all c.from.result ≡ c.in_ok-bytes_of.field-0.items =
+    ap encode_utf8_all c.from.ensures ∙ encodes-chars (string_bytes c.in-Ok.text) (IsUtf8-string_bytes c.in-Ok.text) ∙ text in
     some ∙ ap (λ (l : List ℕ). 116 ∷ l) (c.in_ok-bytes_of.ensures.found ∙ ap encode_lower (sym points))
 
 pub returns-clause-scalars : goal.returns-clause-scalars
 returns-clause-scalars c =
-    rw (c.in_ok-code_points.ensures, c.deref.ensures) (scalars-chars (string_bytes c.in-Ok.text) (IsUtf8-string_bytes c.in-Ok.text))
+    rw c.from.ensures (scalars-chars (string_bytes c.in-Ok.text) (IsUtf8-string_bytes c.in-Ok.text))
