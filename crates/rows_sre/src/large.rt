@@ -87,11 +87,11 @@ fn count_by<L: Ledger>(
     let view = TextView::new(subject);
     let mut walk = SearchIter::new(alloc, Request::new(view, 0, subject.len(), code, false));
     let mut count = 0;
-    for _ in 0..=subject.len() {
+    for earlier in 0..subject.len() {
         if !walk.next(&mut steps)? {
             break;
         }
-        count += 1;
+        count = earlier + 1;
     }
     Ok((count, walk.state().start()))
 }

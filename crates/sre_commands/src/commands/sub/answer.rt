@@ -90,7 +90,8 @@ fn replaced<S: TextParts, L: Ledger>(
         IfOk result (λ x. x.1 ≡ length spans) }
 {
     let end = view.count();
-    let mut walk = SearchIter::new(alloc, Request::new(view, 0, end, code, false));
+    let request = Request::new(view, 0, end, code, false);
+    let mut walk = SearchIter::new(alloc, request);
     let mut bytes = Vec::new(alloc);
     let mut from = walk.view().create_cursor(0);
     let mut count = 0usize;

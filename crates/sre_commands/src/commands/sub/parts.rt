@@ -36,7 +36,8 @@ impl<'s> TextParts for ByteView<'s> {
         from: &StringCursor,
         to: &StringCursor,
     ) -> Result<(), AllocError> {
-        bytes.extend_from_slice(self.slice(from, to))
+        bytes.extend_from_slice(self.slice(from, to))?;
+        Ok(())
     }
 }
 
@@ -49,7 +50,8 @@ impl<'s> TextParts for TextView<'s> {
         from: &StringCursor,
         to: &StringCursor,
     ) -> Result<(), AllocError> {
-        bytes.extend_from_slice(self.slice(from, to).as_bytes())
+        bytes.extend_from_slice(self.slice(from, to).as_bytes())?;
+        Ok(())
     }
 }
 
