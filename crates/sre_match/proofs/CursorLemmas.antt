@@ -1,12 +1,14 @@
 -- Cursors that fit a list.
-use Rattle.std.proofs.Common.{◌≡◌, ◌∙◌, sym, ap, refl, subst, ℕ, zero, suc, ◌+◌, ◌-◌, ◌<◌, ◌≤◌, true, List, [], ◌∷◌, ◌++◌, length, take, drop, arith, length-append, chars, encode_utf8, encode_utf8_all, Option, Some, None}
+use Rattle.std.proofs.Common.{◌≡◌, ◌∙◌, sym, ap, refl, subst, ℕ, zero, suc, ◌+◌, ◌-◌, ◌*◌, ◌/◌, ◌%◌, ◌<◌, ◌≤◌, Bool, true, false, cond, ltb, ⊎_elim, List, [], ◌∷◌, ◌++◌, length, take, drop, arith, length-append, chars, encode_utf8, encode_utf8_all, Option, Some, None}
 use Rattle.std.specs.Prelude.{slice_get, slice_index, slice_range}
 use Rattle.std.specs.Option.{IsSome, MatchOption}
 use Rattle.std.specs.Char.{len_utf8, IsScalar}
-use Rattle.std.specs.Str.{IsUtf8, IsCharBoundary, all_scalars}
-use Rattle.std.proofs.lemmas.Bool.{and_parts, and_from}
-use Rattle.std.proofs.lemmas.List.{take-append-drop, length-take-le, drop_more}
-use Rattle.std.proofs.lemmas.Str.{encodes-append, chars-encodes, scalars-chars, encodes-chars, chars-append, IsUtf8-encode, IsUtf8-take, IsCharBoundary-at_seam, length-encode, length-le-encodes, chars_past_char, chars-nil}
+use Rattle.std.specs.Str.{IsUtf8, IsCharBoundary, all_scalars, continuation_len}
+use Rattle.std.proofs.Math.Utf8.{encode, scalar_cases}
+use Rattle.std.proofs.lemmas.Bool.{and_parts, and_from, ltb-true}
+use Rattle.std.proofs.lemmas.Bool.Decides.{nat_tests}
+use Rattle.std.proofs.lemmas.List.{take-append-drop, length-take-le, length-drop, drop_more, take_all}
+use Rattle.std.proofs.lemmas.Str.{encodes-append, chars-encodes, scalars-chars, encodes-chars, chars-append, IsUtf8-encode, IsUtf8-take, IsCharBoundary-at_seam, length-encode, len_utf8_bounds, length-le-encodes, chars_past_char, chars-nil}
 use Rattle.std.proofs.lemmas.List.{append-nil}
 use Rattle.std.proofs.Math.Seq.{take-append_seam, drop-append_seam}
 use Rattle.sre_match.specs.Cursor.{Cursor, fits_text}
@@ -180,3 +182,59 @@ points_at_most bs t = omega (arith, length-le-encodes (chars bs), ap length (enc
 
 pub offset_at_most : (u bs : List ℕ) (p o : ℕ) → Parts u bs p o → o ≤ length bs
 offset_at_most u bs p o w = omega (arith, w.offset, ap length w.bytes, length-append (encode_utf8_all (take p u)) (encode_utf8_all (drop p u)))
+
+-- the width of a code point is seen in its first byte
+pub one_byte : (b : ℕ) → b < 128 → continuation_len b + 1 ≡ 1
+one_byte b h = grind (arith, nat_tests)
+
+pub two_bytes : (b : ℕ) → 128 ≤ b → b < 224 → continuation_len b + 1 ≡ 2
+two_bytes b h k = grind (arith, nat_tests)
+
+pub three_bytes : (b : ℕ) → 224 ≤ b → b < 240 → continuation_len b + 1 ≡ 3
+three_bytes b h k = grind (arith, nat_tests)
+
+pub four_bytes : (b : ℕ) → 240 ≤ b → continuation_len b + 1 ≡ 4
+four_bytes b h = grind (arith, nat_tests)
+
+by_width : (c : ℕ) (rest : List ℕ) (a b d : Bool) → ltb c 128 ≡ a → ltb c 2048 ≡ b → ltb c 65536 ≡ d → c < 1114112
+    → continuation_len (slice_index (cond a (c ∷ []) (cond b ((192 + c / 64) ∷ (128 + c % 64) ∷ []) (cond d ((224 + c / 4096) ∷ (128 + (c / 64) % 64) ∷ (128 + c % 64) ∷ []) ((240 + c / 262144) ∷ (128 + (c / 4096) % 64) ∷ (128 + (c / 64) % 64) ∷ (128 + c % 64) ∷ []))) ++ rest) 0) + 1
+    ≡ cond a 1 (cond b 2 (cond d 3 4))
+by_width c rest true b d ea eb ed lt = one_byte c (ltb-true c 128 ea)
+by_width c rest false true d ea eb ed lt = let h = ltb-true c 2048 eb in two_bytes (192 + c / 64) (omega arith) (omega arith)
+by_width c rest false false true ea eb ed lt = let h = ltb-true c 65536 ed in three_bytes (224 + c / 4096) (omega arith) (omega arith)
+by_width c rest false false false ea eb ed lt = four_bytes (240 + c / 262144) (omega arith)
+
+width_first : (c : ℕ) (rest : List ℕ) → IsScalar c → continuation_len (slice_index (encode c ++ rest) 0) + 1 ≡ len_utf8 c
+unfolding encode
+width_first c rest e =
+    let small : c < 1114112 = ⊎_elim (λ h. omega arith) (λ h. h.1) (scalar_cases c e) in
+    by_width c rest (ltb c 128) (ltb c 2048) (ltb c 65536) refl refl refl small
+
+index_drop : (o : ℕ) (bs : List ℕ) → slice_index bs o ≡ slice_index (drop o bs) 0
+index_drop zero bs = refl
+index_drop (suc o) [] = refl
+index_drop (suc o) (b ∷ bs) = index_drop o bs
+
+-- the code point at a place, and its bytes
+bytes_there : (u bs : List ℕ) (p o : ℕ) → Parts u bs p o → p < length u → drop o bs ≡ encode_utf8 (slice_index u p) ++ encode_utf8_all (drop (p + 1) u)
+bytes_there u bs p o w h = bytes_from u bs p o w ∙ ap encode_utf8_all (drop_more u p 0 h)
+
+scalar_there : (u bs : List ℕ) (p o : ℕ) → Parts u bs p o → p < length u → IsScalar (slice_index u p)
+scalar_there u bs p o w h =
+    let all : all_scalars (slice_index u p ∷ drop (p + 1) u) ≡ true = ap all_scalars (sym (drop_more u p 0 h)) ∙ w.following in
+    (and_parts _ _ all).0
+
+pub byte_there : (u bs : List ℕ) (p o : ℕ) → Parts u bs p o → p < length u → o < length bs
+byte_there u bs p o w h =
+    omega (arith, ap length (bytes_there u bs p o w h), length-append (encode_utf8 (slice_index u p)) (encode_utf8_all (drop (p + 1) u)), length-encode (slice_index u p), len_utf8_bounds (slice_index u p), length-drop o bs)
+
+pub width_there : (u bs : List ℕ) (p o : ℕ) → Parts u bs p o → p < length u → continuation_len (slice_index bs o) + 1 ≡ len_utf8 (slice_index u p)
+width_there u bs p o w h =
+    ap (λ (b : ℕ). continuation_len b + 1) (index_drop o bs ∙ ap (λ (l : List ℕ). slice_index l 0) (bytes_there u bs p o w h))
+    ∙ width_first (slice_index u p) (encode_utf8_all (drop (p + 1) u)) (scalar_there u bs p o w h)
+
+-- the end of a text
+pub end_fits : (bs : List ℕ) (n : ℕ) → IsUtf8 bs → n ≡ length (chars bs) → fits_text (chars bs) (record { place = n; offset = length bs }) ≡ true
+end_fits bs n t e =
+    let all : encode_utf8_all (take n (chars bs)) ≡ bs = ap encode_utf8_all (take_all n (chars bs) (omega (arith, e))) ∙ encodes-chars bs t in
+    fits_from (chars bs) (record { place = n; offset = length bs }) (omega (arith, e)) (ap length (sym all))

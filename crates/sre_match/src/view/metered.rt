@@ -8,7 +8,7 @@ ghost use Rattle.sre_match.specs.Search.{reads_next};
 use crate::error::MatchError;
 use crate::request::Request;
 use crate::state::State;
-use crate::view::{StrDrive, StringCursor};
+use crate::view::{ByteView, StrDrive, StringCursor};
 use py_base::Steps;
 use std::marker::{Model, PhantomData};
 use std::sync::ledger::Ledger;
@@ -16,7 +16,7 @@ use std::sync::ledger::Ledger;
 /// Bytes, each of which is a unit, and whose reads the counter of the ledger K alone can count.
 #[derive(Drop)]
 pub struct MeteredView<'s, K: Ledger> {
-    all: &'s [u8],
+    view: ByteView<'s>,
     of: PhantomData<K>,
 }
 
@@ -25,7 +25,7 @@ impl<'s, K: Ledger> Model for MeteredView<'s, K> {
 
     ghost Value = { List ℕ };
 
-    ghost view = { λ v. v.all.now };
+    ghost view = { λ v. v.view };
 }
 
 impl<'s, K: Ledger> MeteredView<'s, K> {
@@ -34,7 +34,7 @@ impl<'s, K: Ledger> MeteredView<'s, K> {
         ensures { result ≡ bytes.entry.now }
     {
         MeteredView {
-            all: bytes,
+            view: ByteView::new(bytes),
             of: PhantomData,
         }
     }
@@ -56,36 +56,31 @@ impl<'s, K: Ledger> StrDrive for MeteredView<'s, K> {
     ghost cut_fits = { within_cut };
 
     fn count(&self) -> usize {
-        self.all.len()
+        self.view.count()
     }
 
     fn create_cursor(&self, n: usize) -> StringCursor {
-        StringCursor::new(n, n)
+        self.view.create_cursor(n)
     }
 
     fn peek<L: Ledger>(&self, cursor: &StringCursor, steps: &mut Steps<L>) -> u32 {
-        steps.tick();
-        let bytes = self.all;
-        bytes[cursor.position()] as u32
+        self.view.peek(cursor, steps)
     }
 
     fn skip(&self, cursor: &mut StringCursor, n: usize) {
-        let _bytes = self.all;
-        *cursor = StringCursor::new(cursor.position() + n, cursor.offset());
+        self.view.skip(cursor, n)
     }
 
     fn back_peek<L: Ledger>(&self, cursor: &StringCursor, steps: &mut Steps<L>) -> u32 {
-        steps.tick();
-        let bytes = self.all;
-        bytes[cursor.position() - 1] as u32
+        self.view.back_peek(cursor, steps)
     }
 
     fn back_skip(&self, cursor: &mut StringCursor, n: usize) {
-        *cursor = StringCursor::new(cursor.position() - n, cursor.offset());
+        self.view.back_skip(cursor, n)
     }
 
     fn slice(&self, from: &StringCursor, to: &StringCursor) -> &'s [u8] {
-        &self.all[from.position()..to.position()]
+        self.view.slice(from, to)
     }
 }
 

@@ -1,6 +1,7 @@
 //! A text, each code point of which is a unit.
 
 ghost use Rattle.std.specs.Prelude.{◌≡◌, ◌+◌, ◌-◌, ◌≤◌, ◌<◌, chars, length, take, slice_index, slice_range, encode_utf8_all, true, ⊤};
+ghost use Rattle.std.specs.Char.{len_utf8};
 ghost use Rattle.std.specs.Str.{IsCharBoundary};
 ghost use Rattle.sre_match.specs.Cursor.{fits_text};
 ghost use Rattle.sre_match.specs.CursorLemmas.{within_text, text_cut};
@@ -74,6 +75,24 @@ fn part_of<'s>(text: &'s str, from: &StringCursor, to: &StringCursor) -> &'s str
     &text[from.offset()..to.offset()]
 }
 
+// How many bytes the code point at a cursor takes, by the first of them.
+fn width_at(text: &str, cursor: &StringCursor) -> usize
+    requires fits { fits_text (chars text.now) cursor.now ≡ true }
+    requires there { cursor.now.place < length (chars text.now) }
+    ensures { result ≡ len_utf8 (slice_index (chars text.now) cursor.now.place) }
+{
+    let first = text.as_bytes()[cursor.offset()];
+    if first < 0x80 {
+        1
+    } else if first < 0xE0 {
+        2
+    } else if first < 0xF0 {
+        3
+    } else {
+        4
+    }
+}
+
 // One code point on.
 fn step_on(text: &str, cursor: &StringCursor) -> StringCursor
     requires fits { fits_text (chars text.now) cursor.now ≡ true }
@@ -81,7 +100,7 @@ fn step_on(text: &str, cursor: &StringCursor) -> StringCursor
     ensures fits { fits_text (chars text.now) result ≡ true }
     ensures place { result.place ≡ cursor.now.place + 1 }
 {
-    let width = char_at(text, cursor).len_utf8();
+    let width = width_at(text, cursor);
     StringCursor::new(cursor.position() + 1, cursor.offset() + width)
 }
 
@@ -94,6 +113,15 @@ fn step_back(text: &str, cursor: &StringCursor) -> StringCursor
 {
     let width = char_before(text, cursor).len_utf8();
     StringCursor::new(cursor.position() - 1, cursor.offset() - width)
+}
+
+// The cursor at the end of a text with so many code points.
+fn end_of(text: &str, count: usize) -> StringCursor
+    requires { count ≡ length (chars text.now) }
+    ensures fits { fits_text (chars text.now) result ≡ true }
+    ensures place { result.place ≡ count }
+{
+    StringCursor::new(count, text.len())
 }
 
 impl<'s> StrDrive for TextView<'s> {
@@ -116,6 +144,9 @@ impl<'s> StrDrive for TextView<'s> {
     }
 
     fn create_cursor(&self, n: usize) -> StringCursor {
+        if n == self.count {
+            return end_of(self.text, n);
+        }
         let mut cursor = StringCursor::new(0, 0);
         self.skip(&mut cursor, n);
         cursor
