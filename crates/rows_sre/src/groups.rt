@@ -4,7 +4,7 @@ ghost use Rattle.std.specs.Prelude.{◌≡◌, ◌<◌};
 
 use py_base::Steps;
 use sre_code::{Checked, decode};
-use sre_match::{Marks, MatchError, ByteView, Request, State};
+use sre_match::{ByteView, Marks, MatchError, Request, State};
 use std::alloc::Global;
 use std::marker::Brand;
 use std::sync::ledger::{Blank, Ledger};

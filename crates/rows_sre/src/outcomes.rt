@@ -4,7 +4,7 @@ ghost use Rattle.std.specs.Prelude.{◌≡◌, ◌<◌};
 
 use py_base::Steps;
 use sre_code::{Checked, decode};
-use sre_match::{MatchError, ByteView, Request, State};
+use sre_match::{ByteView, MatchError, Request, State};
 use std::alloc::Global;
 use std::marker::Brand;
 use std::sync::ledger::{Blank, Ledger};
@@ -95,12 +95,7 @@ const PARTS: [(&[u32], &[u8], (usize, usize), [Span; 2]); 12] = [
         (0, 2),
         [Some((0, 2)), Some((0, 2))],
     ),
-    (
-        &[16, 97, 6, 5, 1],
-        b"aab",
-        (0, 2),
-        [None, Some((1, 2))],
-    ),
+    (&[16, 97, 6, 5, 1], b"aab", (0, 2), [None, Some((1, 2))]),
     (&[16, 97, 6, 5, 1], b"aab", (0, 3), [None, None]),
     (
         &[16, 97, 4, 5, 0, 16, 98, 1, 1],
