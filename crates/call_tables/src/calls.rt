@@ -35,8 +35,8 @@ fn size(number: i128) -> Result<usize, Fault> {
     usize::try_from(number).map_err(|_| Fault::BadArguments)
 }
 
-// A number of 64 bits, with a sign.
-fn signed(number: i128) -> Result<isize, Fault> {
+/// A number of 64 bits, with a sign.
+pub fn signed(number: i128) -> Result<isize, Fault> {
     isize::try_from(number).map_err(|_| Fault::BadArguments)
 }
 

@@ -9,5 +9,9 @@ mod results;
 mod table;
 mod token;
 
+pub use calls::signed;
+pub use fault::Fault;
 pub use report::{Report, Tally};
-pub use table::{Table, add_table};
+pub use results::{Outcome, bytes, flag, text};
+pub use table::{Calls, Table, add_table};
+pub use token::Token;

@@ -8,6 +8,12 @@ use crate::results::{Outcome, written};
 use crate::token::Token;
 use std::alloc::{AllocError, Global};
 
+/// The calls of a table.
+pub trait Calls {
+    /// What the call of this name gives on these arguments.
+    fn answer(&self, alloc: Global, name: &str, arguments: &[Token]) -> Outcome;
+}
+
 /// Which calls a table holds.
 #[derive(Clone, Copy, Debug, PartialEq, Eq)]
 pub enum Table {
@@ -19,8 +25,8 @@ pub enum Table {
     Values,
 }
 
-impl Table {
-    fn answer(self, alloc: Global, name: &str, arguments: &[Token]) -> Outcome {
+impl Calls for Table {
+    fn answer(&self, alloc: Global, name: &str, arguments: &[Token]) -> Outcome {
         match self {
             Table::Searches => searches::answer(alloc, name, arguments),
             Table::Pieces => pieces::answer(alloc, name, arguments),
@@ -33,7 +39,7 @@ impl Table {
 }
 
 // The call of a text, made.
-fn outcome_of(alloc: Global, table: Table, text: &str) -> Outcome {
+fn outcome_of<C: Calls>(alloc: Global, table: &C, text: &str) -> Outcome {
     let call = call_of(alloc, text)?;
     table.answer(alloc, call.name, &call.arguments)
 }
@@ -47,11 +53,11 @@ fn name_of(call: &str) -> &str {
 }
 
 /// Makes each call of a table, and adds it to the report.
-pub fn add_table(
+pub fn add_table<C: Calls>(
     alloc: Global,
     report: &mut Report,
     file: &str,
-    table: Table,
+    table: &C,
     text: &str,
 ) -> Result<(), AllocError> {
     report.begin(file)?;
@@ -61,10 +67,10 @@ pub fn add_table(
     Ok(())
 }
 
-fn add_line(
+fn add_line<C: Calls>(
     alloc: Global,
     report: &mut Report,
-    table: Table,
+    table: &C,
     line: &str,
 ) -> Result<(), AllocError> {
     let Some((call, wanted)) = line.split_once(" =") else {

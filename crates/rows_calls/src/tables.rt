@@ -36,7 +36,7 @@ const FAILING_TOLD: &str = "texts
 // The report on one table of these lines.
 fn report_on(alloc: Global, file: &str, table: Table, lines: &str) -> Result<Report, AllocError> {
     let mut report = Report::new(alloc);
-    add_table(alloc, &mut report, file, table, lines)?;
+    add_table(alloc, &mut report, file, &table, lines)?;
     report.end()?;
     Ok(report)
 }
