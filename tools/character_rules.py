@@ -38,6 +38,14 @@ def answer(name, subject):
     return RULES[name](subject) if name in RULES else getattr(subject, name)()
 
 
-def is_known(code):
-    """Whether a number is a character that CPython's tables have."""
-    return unicodedata.category(chr(code)) not in ("Cn", "Cs")
+# Characters that CPython's tables know, and that later versions of Unicode tell otherwise: U+0295 is no longer lower
+# case, U+10FC, U+A7F2 to U+A7F4 and U+AB69 are, and the others have become Alphabetic.
+LATER = frozenset((
+    0x295, *range(0x363, 0x370), 0xC04, 0xF82, 0xF83, 0x10FC, *range(0x1DD3, 0x1DE7), *range(0xA7F2, 0xA7F5), 0xAB69,
+    0x11080, 0x11081,
+))
+
+
+def is_settled(code):
+    """Whether a character is in CPython's tables, and told alike by all later versions of Unicode so far."""
+    return unicodedata.category(chr(code)) not in ("Cn", "Cs") and code not in LATER

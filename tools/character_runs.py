@@ -1,11 +1,12 @@
 """Calls on each character of a range, with CPython's answers: together the ranges hold all characters.
 
-The tests and `repr` are left out of characters that CPython's tables do not know, since a later version of
-Unicode may have them. They go by the rules of docs/DIFFERENCES.md where these differ from CPython's.
+The tests and `repr` leave out the characters that CPython's tables do not know, since a later version of Unicode
+may have them, and those that a later version tells otherwise. Where the rules of docs/DIFFERENCES.md differ from
+CPython's, the tests go by these.
 """
 import itertools
 
-from character_rules import TESTS, answer, is_known
+from character_rules import TESTS, answer, is_settled
 from table_tokens import Instead, i
 
 FACTOR, MODULUS = 65599, 2**64
@@ -16,7 +17,7 @@ CHARACTERS = (*range(0xD800), *range(0xE000, 0x110000))
 
 def runs(codes, kind):
     """The first and the last of neighbours of one kind, and the kind; none is longer than LONGEST."""
-    place, begun = itertools.count(), {}
+    place = itertools.count()
     for (shown, _), group in itertools.groupby(codes, lambda code: (kind(code), code - next(place))):
         members = list(group)
         for start in range(0, len(members), LONGEST):
@@ -31,7 +32,7 @@ def answers_of(code):
 
 
 def tests_of_each():
-    for first, last, answers in runs(filter(is_known, CHARACTERS), answers_of):
+    for first, last, answers in runs(filter(is_settled, CHARACTERS), answers_of):
         tokens = [i(here) for here, _ in answers]
         said = [f"{name} {i(here)}" for name, (here, same) in zip(TESTS, answers) if not same]
         if said:
@@ -53,5 +54,5 @@ def quoted_of_each(name, quote, codes):
 
 def made():
     yield from tests_of_each()
-    yield from quoted_of_each("repr_of_each", repr, filter(is_known, CHARACTERS))
+    yield from quoted_of_each("repr_of_each", repr, filter(is_settled, CHARACTERS))
     yield from quoted_of_each("ascii_of_each", ascii, CHARACTERS)

@@ -7,7 +7,8 @@ from text_calls import some_bytes, text
 STRIPPED = (" \ta\n", "\x0b\x0c\r \x85b", "\xa0 \u2003é", "aab", "éàb ", "\U0001F600 a")
 SIGNED = ("+-1", "0-7", "-+ ", "aé-", "\u221212")
 TABBED = ("ab\t", "a\t\n", "é\t\r", "\t", "\U0001F600\t\na")
-QUOTED = ("'\"a", "\\'n", "é\n\t\r", "\x00\x1f\x7f\x80", "\xad\xa0\u2028a", "\U0001F600\ue000'", "a\"b", "\uffff\U0010ffff")
+QUOTED = ("'\"a", "\\'n", "é\n\t\r", "\x00\x1f\x7f\x80", "\xad\xa0\u2028a", "\U0001F600\ue000'", "a\"b",
+          "\uffff\U0010ffff")
 TESTED = ("ab1", "Ab ", "AB_", "é²½", "ªaA", "12", " \t\x1c", "\u01c5", "\u01c5 1", "aA\u01c5", "àÉ-1", "\xa0\u2028",
           "x_\xb7", "\u200b\xad", "一a", "Éa \n", "\u2160\u216b", "\U0001F600z", "\u0663\u0e331")
 NAMES = (None, None, "utf-8", "utf8", "UTF-8", "Utf8", "uTf-8", "", "klingon", "utf-9", "utf8 é", "latin-1", "ascii",
@@ -73,7 +74,8 @@ def quoted(quote):
 
 
 def quoted_bytes(chance):
-    made = chance.choice([some_bytes(chance), bytes(chance.choice(b"'\"\\a\n\t\r\x7f") for _ in range(chance.randint(0, 5)))])
+    shown = bytes(chance.choice(b"'\"\\a\n\t\r\x7f") for _ in range(chance.randint(0, 5)))
+    made = chance.choice([some_bytes(chance), shown])
     return [b(made)], [t(repr(made))]
 
 
