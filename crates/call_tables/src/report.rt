@@ -1,6 +1,6 @@
 //! The report on calls: how many agree with CPython, by call, and each that does not.
 
-ghost use Rattle.std.specs.Prelude.{◌≡◌, ◌≢◌, ◌↔◌, IsTrue, OnOk, true, false};
+ghost use Rattle.std.specs.Prelude.{◌≡◌, ◌↔◌, IsTrue, OnOk, true, false};
 ghost use Rattle.std.specs.Process.{exit_status};
 ghost use Rattle.py_base.specs.Counts.{one_more};
 
@@ -64,32 +64,37 @@ impl Report {
         write!(self.text, "{file}\n")
     }
 
-    /// Adds a line: the call's name, the whole line, the answer that it wants, and what the call
-    /// gives.
-    pub fn add(
-        &mut self,
-        name: &str,
-        line: &str,
-        wanted: &str,
-        given: &str,
-    ) -> Result<(), AllocError>
-        ensures calls { OnOk result (self.new.all.calls ≡ one_more self.old.all.calls) }
-        ensures agreed { wanted.now ≡ given.now →
-            OnOk result (self.new.all.agreeing ≡ one_more self.old.all.agreeing) }
-        ensures differed { wanted.now ≢ given.now →
-            OnOk result (self.new.all.agreeing ≡ self.old.all.agreeing) }
+    // Begins the lines of a call, unless the line before is one of them.
+    fn turn_to(&mut self, name: &str) -> Result<(), AllocError>
+        ensures { self.new.all ≡ self.old.all }
     {
         if self.call.as_str() != name {
             self.end_call()?;
             self.call.push_str(name)?;
         }
-        let agrees = wanted == given;
-        self.current.add(agrees);
-        self.all.add(agrees);
-        if !agrees {
-            write!(self.text, "  differs: {line}\n    gives{given}\n")?;
-        }
         Ok(())
+    }
+
+    /// Adds a line of the call of this name, which gives what the line wants.
+    pub fn agree(&mut self, name: &str) -> Result<(), AllocError>
+        ensures calls { OnOk result (self.new.all.calls ≡ one_more self.old.all.calls) }
+        ensures agreeing { OnOk result (self.new.all.agreeing ≡ one_more self.old.all.agreeing) }
+    {
+        self.turn_to(name)?;
+        self.current.add(true);
+        self.all.add(true);
+        Ok(())
+    }
+
+    /// Adds a line of the call of this name, which gives something else.
+    pub fn differ(&mut self, name: &str, line: &str, given: &str) -> Result<(), AllocError>
+        ensures calls { OnOk result (self.new.all.calls ≡ one_more self.old.all.calls) }
+        ensures agreeing { OnOk result (self.new.all.agreeing ≡ self.old.all.agreeing) }
+    {
+        self.turn_to(name)?;
+        self.current.add(false);
+        self.all.add(false);
+        write!(self.text, "  differs: {line}\n    gives{given}\n")
     }
 
     // Writes the counts of the call whose lines have ended, if there is one.

@@ -1,7 +1,12 @@
 //! Tables: a call a line, with its answer.
 
+ghost use Rattle.std.specs.Prelude.{◌≡◌, OnOk};
+ghost use Rattle.std.specs.Str.Lines.{lines};
+ghost use Rattle.std.specs.Vec.{vec_items};
+ghost use Rattle.call_tables.specs.Lines.{AddsLine, AddsLines};
+ghost use Rattle.call_tables.specs.Results.{items_of};
+
 use crate::calls::{forms, numbers, pieces, searches, slices, values};
-use crate::fault::Fault;
 use crate::reading::call_of;
 use crate::report::Report;
 use crate::results::{Outcome, written};
@@ -10,8 +15,16 @@ use std::alloc::{AllocError, Global};
 
 /// The calls of a table.
 pub trait Calls {
+    ghost use Rattle.std.specs.Prelude.{List, ℕ, Result};
+    ghost use Rattle.call_tables.specs.declared.fault.Fault.{Fault};
+    ghost use Rattle.call_tables.specs.declared.token.Token.{Token};
+
+    /// What the call of a name may give on these arguments.
+    ghost may_give: { Self → List ℕ → List Token → Result (List Token) Fault → Type 0 };
+
     /// What the call of this name gives on these arguments.
-    fn answer(&self, alloc: Global, name: &str, arguments: &[Token]) -> Outcome;
+    fn answer(&self, alloc: Global, name: &str, arguments: &[Token]) -> Outcome
+        ensures { may_give self.now name.now arguments.now (items_of vec_items result) };
 }
 
 /// Which calls a table holds.
@@ -26,6 +39,8 @@ pub enum Table {
 }
 
 impl Calls for Table {
+    ghost may_give = { λ _ _ _ _. Unit {0} };
+
     fn answer(&self, alloc: Global, name: &str, arguments: &[Token]) -> Outcome {
         match self {
             Table::Searches => searches::answer(alloc, name, arguments),
@@ -36,12 +51,6 @@ impl Calls for Table {
             Table::Values => values::answer(alloc, name, arguments),
         }
     }
-}
-
-// The call of a text, made.
-fn outcome_of<C: Calls>(alloc: Global, table: &C, text: &str) -> Outcome {
-    let call = call_of(alloc, text)?;
-    table.answer(alloc, call.name, &call.arguments)
 }
 
 // The name of a call: what is before the first space.
@@ -59,7 +68,10 @@ pub fn add_table<C: Calls>(
     file: &str,
     table: &C,
     text: &str,
-) -> Result<(), AllocError> {
+) -> Result<(), AllocError>
+    ensures { OnOk result
+        (AddsLines (C.may_give table.now) (lines text.now) report.old.all report.new.all) }
+{
     report.begin(file)?;
     for line in text.lines() {
         add_line(alloc, report, table, line)?;
@@ -72,11 +84,26 @@ fn add_line<C: Calls>(
     report: &mut Report,
     table: &C,
     line: &str,
-) -> Result<(), AllocError> {
-    let Some((call, wanted)) = line.split_once(" =") else {
-        return report.add("(no call)", line, "", " nothing: no line of a table");
+) -> Result<(), AllocError>
+    ensures { OnOk result
+        (AddsLine (C.may_give table.now) line.now report.old.all report.new.all) }
+{
+    let Some((text, wanted)) = line.split_once(" =") else {
+        return report.differ("(no call)", line, " nothing: no line of a table");
     };
-    let outcome = outcome_of(alloc, table, call);
-    let given = written(alloc, &outcome)?;
-    report.add(name_of(call), line, wanted, given.as_str())
+    match call_of(alloc, text) {
+        Ok(call) => {
+            let outcome = table.answer(alloc, call.name, &call.arguments);
+            let given = written(alloc, &outcome)?;
+            if given.as_str() == wanted {
+                report.agree(call.name)
+            } else {
+                report.differ(call.name, line, given.as_str())
+            }
+        }
+        Err(fault) => {
+            let given = written(alloc, &Err(fault))?;
+            report.differ(name_of(text), line, given.as_str())
+        }
+    }
 }
