@@ -25,4 +25,4 @@ AddsLine may_give line old new =
 abbrev pub AddsLines : (List ℕ → List Token → Result (List Token) Fault → Type 0) → List (List ℕ) → Tally → Tally → Type 0
 AddsLines may_give [] old new = new ≡ old
 AddsLines may_give (line ∷ lines) old new =
-    (mid : Tally) × AddsLine may_give line old mid × AddsLines may_give lines mid new
+    (mid : Tally) × (AddsLine may_give line old mid × AddsLines may_give lines mid new)

@@ -1,5 +1,8 @@
 //! The tests of a text.
 
+ghost use Rattle.std.specs.Prelude.{◌≡◌};
+ghost use Rattle.str_tables.specs.TestsOf.{answers};
+
 use call_tables::{Fault, Outcome, flag};
 use py_str::StrMore;
 use py_text::PyStr;
@@ -27,7 +30,9 @@ pub fn place_of(name: &str) -> Option<usize> {
 }
 
 /// The answers of all tests.
-pub fn answers_of(text: &PyStr) -> [bool; 12] {
+pub fn answers_of(text: &PyStr) -> [bool; 12]
+    ensures { result ≡ answers text.now }
+{
     [
         text.isalnum(),
         text.isnumeric(),

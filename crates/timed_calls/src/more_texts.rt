@@ -45,8 +45,8 @@ pub fn sum(
     let text = text_of(alloc, language, size)?;
     match call {
         MoreCall::Strip => stripped(alloc, &text, times),
-        MoreCall::Center => centered(alloc, &text, times),
-        MoreCall::Zfill => zero_filled(alloc, &text, times),
+        MoreCall::Center => centered(alloc, &text, size, times),
+        MoreCall::Zfill => zero_filled(alloc, &text, size, times),
         MoreCall::Expandtabs => expanded(alloc, &text, times),
         MoreCall::Repr => quoted(alloc, &text, times),
         MoreCall::Encode => encoded(alloc, &text, times),
@@ -66,26 +66,26 @@ fn stripped(alloc: Global, text: &PyStr, times: u32) -> PyResult<i128> {
     Ok(sum)
 }
 
-// A width past the length of a text: by 100, and by 101 at each second call.
-fn width_past(text: &PyStr, call: u32) -> isize {
-    (text.char_len() as isize).wrapping_add(100 + (call % 2) as isize)
+// A width past a size: by 100, and by 101 at each second call.
+fn width_past(size: u32, call: u32) -> isize {
+    size as isize + 100 + (call % 2) as isize
 }
 
 // Lengths of the text in the middle of a width.
-fn centered(alloc: Global, text: &PyStr, times: u32) -> PyResult<i128> {
+fn centered(alloc: Global, text: &PyStr, size: u32, times: u32) -> PyResult<i128> {
     let mut sum = 0i128;
     for i in 0..times {
-        let made = text.center(alloc, width_past(text, i), None)?;
+        let made = text.center(alloc, width_past(size, i), None)?;
         sum = sum.wrapping_add(made.char_len() as i128);
     }
     Ok(sum)
 }
 
 // Lengths of the text after zeros.
-fn zero_filled(alloc: Global, text: &PyStr, times: u32) -> PyResult<i128> {
+fn zero_filled(alloc: Global, text: &PyStr, size: u32, times: u32) -> PyResult<i128> {
     let mut sum = 0i128;
     for i in 0..times {
-        let made = text.zfill(alloc, width_past(text, i))?;
+        let made = text.zfill(alloc, width_past(size, i))?;
         sum = sum.wrapping_add(made.char_len() as i128);
     }
     Ok(sum)

@@ -80,15 +80,22 @@ fn interned_again(alloc: Global, size: u32, times: u32) -> PyResult<i128> {
     Ok(sum)
 }
 
+// The place of a text in a pool, or 0 where it is not there.
+fn place_of(pool: &StringPool, name: &PyStr) -> i128 {
+    match pool.interned(name) {
+        Some(handle) => handle.place() as i128,
+        None => 0,
+    }
+}
+
 // Places of identifiers that the pool has, by `interned`.
 fn looked_up(alloc: Global, size: u32, times: u32) -> PyResult<i128> {
     let pool = pool_of(alloc, size)?;
     let names = names_of(alloc, size)?;
     let mut sum = 0i128;
     for i in 0..times {
-        let handle = turn(i, &names).and_then(|name| pool.interned(name));
-        if let Some(handle) = handle {
-            sum = sum.wrapping_add(handle.place() as i128);
+        if let Some(name) = turn(i, &names) {
+            sum = sum.wrapping_add(place_of(&pool, name));
         }
     }
     Ok(sum)
