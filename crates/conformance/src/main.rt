@@ -2,9 +2,9 @@
 #![tactic(auto)]
 
 use call_tables::{Report, Table, add_table};
-use str_tables::StrTable;
 use std::process::ExitCode;
 use std::{fs, io};
+use str_tables::StrTable;
 
 // The tables of texts and integers, each with the file that holds it.
 const TABLES: [(&str, Table); 6] = [

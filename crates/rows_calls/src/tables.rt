@@ -88,6 +88,9 @@ const CHARACTERS_TOLD: &str = "characters
 #[test]
 fn characters_are_told_apart(rt: HostRuntime) -> Result<(), Fail> {
     let report = report_on(rt.alloc(), "characters", &StrTable::Characters, CHARACTERS)?;
-    assert_eq!(rt; (report.text(), report.is_clean()), (CHARACTERS_TOLD, false));
+    assert_eq!(rt;
+        (report.text(), report.is_clean()),
+        (CHARACTERS_TOLD, false)
+    );
     Ok(())
 }

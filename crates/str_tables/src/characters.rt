@@ -81,10 +81,7 @@ fn quoted(alloc: Global, quoting: Quoting, first: u32, last: u32) -> Outcome {
         length = length.wrapping_add(made.char_len() as u64);
         sum = sum_with(sum, made.as_str());
     }
-    let tokens = [
-        Token::Int(i128::from(length)),
-        Token::Int(i128::from(sum)),
-    ];
+    let tokens = [Token::Int(i128::from(length)), Token::Int(i128::from(sum))];
     Ok(Vec::from_array(alloc, tokens)?)
 }
 
@@ -93,7 +90,9 @@ fn quoted(alloc: Global, quoting: Quoting, first: u32, last: u32) -> Outcome {
 fn sum_with(before: u64, text: &str) -> u64 {
     let mut sum = before;
     for letter in text.chars() {
-        sum = sum.wrapping_mul(65_599).wrapping_add(u64::from(letter as u32));
+        sum = sum
+            .wrapping_mul(65_599)
+            .wrapping_add(u64::from(letter as u32));
     }
     sum
 }
