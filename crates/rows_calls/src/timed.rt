@@ -5,7 +5,8 @@ use std::alloc::Global;
 use std::test::Fail;
 use timed_calls::{Language, Request, text_of, text_with_end};
 
-// Three calls of each kind on texts of 300 code points or pools of 300 texts, with the sums that CPython gives.
+// Three calls of each kind on texts of 300 code points or pools of 300 texts, with the sums that
+// CPython gives.
 const SUMS: [(&str, i128); 43] = [
     ("find_ascii", 879),
     ("find_french", 876),
