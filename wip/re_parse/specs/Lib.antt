@@ -1,0 +1,3 @@
+pub mod FirstPass
+pub mod PassView
+pub mod TokenView
