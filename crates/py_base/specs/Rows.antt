@@ -6,7 +6,7 @@ use Rattle.py_base.specs.Error.Kinds.{kind_of}
 use Rattle.py_base.specs.Error.Display.{error_text}
 use Rattle.py_base.specs.Hash.{int_hash}
 use Rattle.py_base.specs.Chars.Quoting.{bytes_repr}
-use Rattle.py_base.specs.declared.chars.categories.TheConstants.{CATEGORY_NOT_SPACE}
+use Rattle.py_base.specs.declared.chars.categories.TheConstants.{CATEGORY_DIGIT, CATEGORY_NOT_DIGIT, CATEGORY_SPACE, CATEGORY_NOT_SPACE, CATEGORY_WORD, CATEGORY_NOT_WORD, CATEGORY_LINEBREAK, CATEGORY_NOT_LINEBREAK, CATEGORY_UNI_DIGIT, CATEGORY_UNI_NOT_DIGIT, CATEGORY_UNI_SPACE, CATEGORY_UNI_NOT_SPACE, CATEGORY_UNI_WORD, CATEGORY_UNI_NOT_WORD, CATEGORY_UNI_LINEBREAK, CATEGORY_UNI_NOT_LINEBREAK, LINE_FEED}
 use Rattle.py_base.specs.declared.error.brace.FormatSpecError.TheVariants.{CodeNotInRange}
 use Rattle.py_base.specs.declared.error.kinds.ErrorKind.TheVariants.{OverflowError}
 use Rattle.py_base.specs.declared.error.type_names.ClassName.TheVariants.{Bool, Str}
@@ -36,3 +36,19 @@ spec_kind = refl
 
 pub bool_wanted : error_text (Downcast Bool Str) ≡ codes "Expected type bool, not str"
 bool_wanted = refl
+
+-- the numbers of `Lib/re/_constants.py`
+pub ascii_categories_are :
+    CATEGORY_DIGIT ∷ CATEGORY_NOT_DIGIT ∷ CATEGORY_SPACE ∷ CATEGORY_NOT_SPACE ∷
+    CATEGORY_WORD ∷ CATEGORY_NOT_WORD ∷ CATEGORY_LINEBREAK ∷ CATEGORY_NOT_LINEBREAK ∷ []
+    ≡ 0 ∷ 1 ∷ 2 ∷ 3 ∷ 4 ∷ 5 ∷ 6 ∷ 7 ∷ []
+ascii_categories_are = refl
+
+pub unicode_categories_are :
+    CATEGORY_UNI_DIGIT ∷ CATEGORY_UNI_NOT_DIGIT ∷ CATEGORY_UNI_SPACE ∷ CATEGORY_UNI_NOT_SPACE ∷
+    CATEGORY_UNI_WORD ∷ CATEGORY_UNI_NOT_WORD ∷ CATEGORY_UNI_LINEBREAK ∷ CATEGORY_UNI_NOT_LINEBREAK ∷ []
+    ≡ 10 ∷ 11 ∷ 12 ∷ 13 ∷ 14 ∷ 15 ∷ 16 ∷ 17 ∷ []
+unicode_categories_are = refl
+
+pub line_feed_is : LINE_FEED ≡ 10
+line_feed_is = refl
