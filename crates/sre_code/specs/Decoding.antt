@@ -39,4 +39,5 @@ ended (Err e) = Err e
 -- a whole code
 abbrev pub read_code : ℕ → List ℕ → Result PlainTree CodeError
 read_code groups ws =
-    if nat_lt MAXGROUPS groups then invalid else ended (read_info ws and_then λ _ rest. read_tree groups MAXDEPTH rest)
+    if nat_lt MAXGROUPS groups then invalid
+    else ended (read_info ws and_then λ _ rest. read_tree groups MAXDEPTH rest)

@@ -80,6 +80,11 @@ pub const AT_UNI_BOUNDARY: u32 = 10;
 /// The complement of `AT_UNI_BOUNDARY`.
 pub const AT_UNI_NON_BOUNDARY: u32 = 11;
 
+/// How many words hold the bits of 256 units: those of a charset, and of a block of a big one.
+pub const CHARSET_WORDS: usize = 8;
+/// How many words the map of a big charset has, with the numbers of four blocks each.
+pub const MAP_WORDS: usize = 64;
+
 /// As the greatest count of a repeat: there is none.
 pub const MAXREPEAT: u32 = 4_294_967_295;
 /// The greatest number of groups.

@@ -16,13 +16,18 @@ read_alternative body ws =
     read_word rest and_then λ jump rest.
     if nat_le jump (length rest + 1) then Ok ((t, length rest + 1 - jump), rest) else invalid
 
--- at most n alternatives, which all jump past the last word of the branch, where so many words are left
+-- at most n alternatives, which all jump past the last word of the branch, where so many words are
+-- left
 abbrev pub read_alternatives : ℕ → Body → ℕ → List ℕ → Read (List PlainTree)
 read_alternatives zero body left ws = invalid
 read_alternatives (suc n) body left ws =
-    if is_next FAILURE ws then (if length (drop 1 ws) == left then Ok ([], drop 1 ws) else invalid) else
+    if is_next FAILURE ws
+    then (if length (drop 1 ws) == left then Ok ([], drop 1 ws) else invalid)
+    else
     read_alternative body ws and_then λ t rest.
-    if t.1 == left then (read_alternatives n body left rest and_then λ ts rest. Ok (t.0 ∷ ts, rest)) else invalid
+    if t.1 == left
+    then (read_alternatives n body left rest and_then λ ts rest. Ok (t.0 ∷ ts, rest))
+    else invalid
 
 abbrev pub read_branch : Body → List ℕ → Read PlainNode
 read_branch body ws =

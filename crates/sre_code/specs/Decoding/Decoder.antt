@@ -30,4 +30,6 @@ pub record Limits : Type 0 where
   pub levels : ℕ
 
 abbrev pub limits_code : Coded Limits
-limits_code = code_by (ℕ × ℕ) (coded× coded_ℕ coded_ℕ) (λ l. (l.groups, l.levels)) (λ p. record { groups = p.0; levels = p.1 }) (λ _. refl)
+limits_code =
+    code_by (ℕ × ℕ) (coded× coded_ℕ coded_ℕ) (λ l. (l.groups, l.levels))
+    (λ p. record { groups = p.0; levels = p.1 }) (λ _. refl)

@@ -19,9 +19,11 @@ read_at ws = read_word ws and_then λ k rest. if is_anchor k then Ok (at k, rest
 
 -- words count groups from 0 on, nodes from 1 on
 abbrev pub read_groupref : ℕ → List ℕ → Read PlainNode
-read_groupref groups ws = read_word ws and_then λ g rest. if nat_lt g groups then Ok (ref (g + 1), rest) else invalid
+read_groupref groups ws =
+    read_word ws and_then λ g rest. if nat_lt g groups then Ok (ref (g + 1), rest) else invalid
 
 abbrev pub leaf_readers : ℕ → List (ℕ × (List ℕ → Read PlainNode))
 leaf_readers groups =
-    (FAILURE, λ ws. Ok (fail, ws)) ∷ (ANY, λ ws. Ok (any, ws)) ∷ (ANY_ALL, λ ws. Ok (any_all, ws)) ∷ (AT, read_at)
-    ∷ (GROUPREF, read_groupref groups) ∷ (IN, read_in) ∷ (LITERAL, read_literal) ∷ (NOT_LITERAL, read_not_literal) ∷ []
+    (FAILURE, λ ws. Ok (fail, ws)) ∷ (ANY, λ ws. Ok (any, ws)) ∷ (ANY_ALL, λ ws. Ok (any_all, ws))
+    ∷ (AT, read_at) ∷ (GROUPREF, read_groupref groups) ∷ (IN, read_in) ∷ (LITERAL, read_literal)
+    ∷ (NOT_LITERAL, read_not_literal) ∷ []

@@ -14,8 +14,9 @@ use Rattle.sre_code.specs.Decoding.Conditionals.{read_exists}
 
 abbrev pub body_readers : ℕ → Body → List (ℕ × (List ℕ → Read PlainNode))
 body_readers groups body =
-    (ASSERT, read_assert true body) ∷ (ASSERT_NOT, read_assert false body) ∷ (ATOMIC_GROUP, read_atomic body)
-    ∷ (BRANCH, read_branch body) ∷ (GROUPREF_EXISTS, read_exists groups body) ∷ (MARK, read_mark groups body) ∷ []
+    (ASSERT, read_assert true body) ∷ (ASSERT_NOT, read_assert false body)
+    ∷ (ATOMIC_GROUP, read_atomic body) ∷ (BRANCH, read_branch body)
+    ∷ (GROUPREF_EXISTS, read_exists groups body) ∷ (MARK, read_mark groups body) ∷ []
 
 abbrev pub node_readers : ℕ → Body → List (ℕ × (List ℕ → Read PlainNode))
 node_readers groups body = leaf_readers groups ++ (body_readers groups body ++ repeat_readers body)

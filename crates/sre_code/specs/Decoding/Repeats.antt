@@ -15,7 +15,9 @@ read_counts ws =
     read_word ws and_then λ skip rest.
     read_word rest and_then λ least rest.
     read_word rest and_then λ greatest rest.
-    if nat_le least greatest then Ok (record { skip = skip; least = least; greatest = greatest }, rest) else invalid
+    if nat_le least greatest
+    then Ok (record { skip = skip; least = least; greatest = greatest }, rest)
+    else invalid
 
 -- greedy or lazy by the word after the body
 abbrev pub read_repeat : Body → List ℕ → Read PlainNode
@@ -41,5 +43,6 @@ read_repeat_one kind body ws =
 
 abbrev pub repeat_readers : Body → List (ℕ × (List ℕ → Read PlainNode))
 repeat_readers body =
-    (REPEAT, read_repeat body) ∷ (REPEAT_ONE, read_repeat_one Greedy body) ∷ (MIN_REPEAT_ONE, read_repeat_one Lazy body)
-    ∷ (POSSESSIVE_REPEAT, read_possessive body) ∷ (POSSESSIVE_REPEAT_ONE, read_repeat_one Possessive body) ∷ []
+    (REPEAT, read_repeat body) ∷ (REPEAT_ONE, read_repeat_one Greedy body)
+    ∷ (MIN_REPEAT_ONE, read_repeat_one Lazy body) ∷ (POSSESSIVE_REPEAT, read_possessive body)
+    ∷ (POSSESSIVE_REPEAT_ONE, read_repeat_one Possessive body) ∷ []

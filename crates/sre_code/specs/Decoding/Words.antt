@@ -22,4 +22,6 @@ is_odd n = n % 2 == 1
 -- a body ends at no word, a jump, the last word of a body, and the end of a group
 abbrev pub is_end : List ℕ → Bool
 is_end [] = true
-is_end (w ∷ ws) = w == SUCCESS || w == JUMP || w == MAX_UNTIL || w == MIN_UNTIL || (w == MARK && is_odd (get_or ws 0 0))
+is_end (w ∷ ws) =
+    w == SUCCESS || w == JUMP || w == MAX_UNTIL || w == MIN_UNTIL
+    || (w == MARK && is_odd (get_or ws 0 0))

@@ -5,7 +5,7 @@ use crate::opcodes::MAXGROUPS;
 use std::alloc::Global;
 use std::marker::Model;
 
-/// What is read from the front of the words, and the words that are left.
+/// What is read of the words, and the words that are left.
 pub(crate) type Read<'w, T> = Result<(T, &'w [u32]), CodeError>;
 
 /// How many groups a code has, and how many bodies may be inside one another from here on.

@@ -10,7 +10,9 @@ ghost use Rattle.sre_code.specs.TreeView.{node_of};
 use crate::decoding::decoder::Read;
 use crate::decoding::words::{after_next, is_next, read_word, read_words};
 use crate::error::CodeError;
-use crate::opcodes::{BIGCHARSET, CATEGORY, CHARSET, FAILURE, LITERAL, NEGATE, RANGE};
+use crate::opcodes::{
+    BIGCHARSET, CATEGORY, CHARSET, CHARSET_WORDS, FAILURE, LITERAL, MAP_WORDS, NEGATE, RANGE,
+};
 use crate::set::{Items, SetItem, Words};
 use crate::tree::Node;
 use py_base::is_category;
@@ -44,7 +46,7 @@ fn read_category(words: &[u32]) -> Read<SetItem>
 fn read_charset(alloc: Global, words: &[u32]) -> Read<SetItem>
     ensures { Meets (spec.read_charset words.now) (read_of result) }
 {
-    let (bits, rest) = read_words(8, words)?;
+    let (bits, rest) = read_words(CHARSET_WORDS, words)?;
     let bits = Words::from_slice(alloc, bits)?;
     Ok((SetItem::Bits(bits), rest))
 }
@@ -61,8 +63,8 @@ fn read_bigcharset(alloc: Global, words: &[u32]) -> Read<SetItem>
     ensures { Meets (spec.read_bigcharset words.now) (read_of result) }
 {
     let (count, rest) = read_word(words)?;
-    let (map, rest) = read_words(64, rest)?;
-    let (bits, rest) = read_words(8 * count as usize, rest)?;
+    let (map, rest) = read_words(MAP_WORDS, rest)?;
+    let (bits, rest) = read_words(CHARSET_WORDS * count as usize, rest)?;
     Ok((blocks(alloc, map, bits)?, rest))
 }
 
