@@ -4,7 +4,7 @@ use Rattle.std.specs.Prelude.{slice_range}
 use Rattle.std.proofs.lemmas.List.{take_all}
 use Rattle.std.proofs.lemmas.Bool.{eqb-true, leb-true, leb-false, ltb-true}
 use Rattle.sre_code.specs.PlainTree.{PlainTree}
-use Rattle.sre_match.specs.Matches.{Span, next_span, is_empty_span, spans}
+use Rattle.sre_match.specs.Matches.{Span, any_end, next_span, is_empty_span, spans}
 use Rattle.sre_match.specs.Search.{Search, NextStart, start_of, start_after}
 use Rattle.sre_commands.specs.Commands.Sub.Filling.{Replacement, fill, result_from, result_of}
 use Rattle.sre_match.proofs.Spans.{Follows, next_follows, turns, turns_fall, wanted, wanted_first, wanted_none, wanted_full, wanted_some}
@@ -56,43 +56,43 @@ reached (suc limit) count e = (λ z. cc z, leb-true (suc limit) count (rw (no_ze
 -- what is known where one more span is to be replaced
 pub record IsNext (s : List ℕ) (t : PlainTree) (limit count : ℕ) (next_start : NextStart) (x : Span) : Type 0 where
   pub short : (limit ≡ 0) ⊎ (count < limit)
-  pub next : next_span t s next_start.place next_start.advance false ≡ Some x
+  pub next : next_span t s next_start.place (any_end next_start.advance) ≡ Some x
 
-pub next_is : (s : List ℕ) (t : PlainTree) (limit count : ℕ) (next_start : NextStart) (x : Span) → Some x ≡ up_to limit count (next_span t s next_start.place next_start.advance false) → IsNext s t limit count next_start x
+pub next_is : (s : List ℕ) (t : PlainTree) (limit count : ℕ) (next_start : NextStart) (x : Span) → Some x ≡ up_to limit count (next_span t s next_start.place (any_end next_start.advance)) → IsNext s t limit count next_start x
 next_is s t limit count next_start x e = at (is_reached limit count) refl e
   where
-    at : (b : Bool) → is_reached limit count ≡ b → Some x ≡ cond b None (next_span t s next_start.place next_start.advance false) → IsNext s t limit count next_start x
+    at : (b : Bool) → is_reached limit count ≡ b → Some x ≡ cond b None (next_span t s next_start.place (any_end next_start.advance)) → IsNext s t limit count next_start x
     at true is e = absurd cc
     at false is e = record { short = not_reached limit count is; next = sym e }
 
-pub none_is : (s : List ℕ) (t : PlainTree) (limit count : ℕ) (next_start : NextStart) → None ≡ up_to limit count (next_span t s next_start.place next_start.advance false) → wanted limit count t s next_start.place next_start.advance ≡ []
+pub none_is : (s : List ℕ) (t : PlainTree) (limit count : ℕ) (next_start : NextStart) → None ≡ up_to limit count (next_span t s next_start.place (any_end next_start.advance)) → wanted limit count t s next_start.place next_start.advance ≡ []
 none_is s t limit count next_start e = at (is_reached limit count) refl e
   where
-    at : (b : Bool) → is_reached limit count ≡ b → None ≡ cond b None (next_span t s next_start.place next_start.advance false) → wanted limit count t s next_start.place next_start.advance ≡ []
+    at : (b : Bool) → is_reached limit count ≡ b → None ≡ cond b None (next_span t s next_start.place (any_end next_start.advance)) → wanted limit count t s next_start.place next_start.advance ≡ []
     at true is e = let h = reached limit count is in wanted_full limit count t s next_start.place next_start.advance h.0 h.1
     at false is e = wanted_none limit count t s next_start.place next_start.advance (sym e)
 
-pub next_after : (s : List ℕ) (t : PlainTree) (limit count : ℕ) (next_start after : NextStart) (x : Span) → Some x ≡ up_to limit count (next_span t s next_start.place next_start.advance false) → after ≡ start_after (up_to limit count (next_span t s next_start.place next_start.advance false)) next_start → after ≡ record { place = x.stop; advance = is_empty_span x }
+pub next_after : (s : List ℕ) (t : PlainTree) (limit count : ℕ) (next_start after : NextStart) (x : Span) → Some x ≡ up_to limit count (next_span t s next_start.place (any_end next_start.advance)) → after ≡ start_after (up_to limit count (next_span t s next_start.place (any_end next_start.advance))) next_start → after ≡ record { place = x.stop; advance = is_empty_span x }
 next_after s t limit count next_start after x e moved = moved ∙ ap (λ (o : Option Span). start_after o next_start) (sym e)
 
-pub follows_is : (list : Replacement) (s : List ℕ) (t : PlainTree) (limit count : ℕ) (next_start : NextStart) (place : ℕ) (units : List ℕ) (x : Span) → Copied list s t limit count next_start place units → Some x ≡ up_to limit count (next_span t s next_start.place next_start.advance false) → Follows s place next_start.advance x
+pub follows_is : (list : Replacement) (s : List ℕ) (t : PlainTree) (limit count : ℕ) (next_start : NextStart) (place : ℕ) (units : List ℕ) (x : Span) → Copied list s t limit count next_start place units → Some x ≡ up_to limit count (next_span t s next_start.place (any_end next_start.advance)) → Follows s place next_start.advance x
 follows_is list s t limit count next_start place units x k e =
     let n = next_is s t limit count next_start x e in
-    let f = next_follows t s next_start.place next_start.advance false x (omega (arith, k.place_is, k.within)) n.next in
+    let f = next_follows t s next_start.place (any_end next_start.advance) x (omega (arith, k.place_is, k.within)) n.next in
     subst (λ (q : ℕ). Follows s q next_start.advance x) (sym k.place_is) f
 
 -- one gap and one filled template more
 pub copied_more : (list : Replacement) (s : List ℕ) (t : PlainTree) (limit count : ℕ) (next_start after : NextStart) (place : ℕ) (was mid new : List ℕ) (x : Span)
     → Copied list s t limit count next_start place was
-    → Some x ≡ up_to limit count (next_span t s next_start.place next_start.advance false)
-    → after ≡ start_after (up_to limit count (next_span t s next_start.place next_start.advance false)) next_start
+    → Some x ≡ up_to limit count (next_span t s next_start.place (any_end next_start.advance))
+    → after ≡ start_after (up_to limit count (next_span t s next_start.place (any_end next_start.advance))) next_start
     → mid ≡ was ++ slice_range s place x.start → new ≡ mid ++ fill list s x
     → Copied list s t limit (count + 1) after x.stop new
 copied_more list s t limit count next_start after place was mid new x k e moved m n =
     let next = next_is s t limit count next_start x e in
     let q = next_start.place in
     let le : q ≤ length s = omega (arith, k.place_is, k.within) in
-    let f = next_follows t s q next_start.advance false x le next.next in
+    let f = next_follows t s q (any_end next_start.advance) x le next.next in
     let falls = turns_fall s q next_start.advance x f in
     let one : wanted limit count t s q next_start.advance ≡ x ∷ wanted limit (count + 1) t s x.stop (is_empty_span x) = wanted_some limit count t s q next_start.advance x le next.short next.next in
     let rest = result_from x.stop s (wanted limit (count + 1) t s x.stop (is_empty_span x)) list in
@@ -110,28 +110,28 @@ copied_more list s t limit count next_start after place was mid new x k e moved 
 -- the last gap
 pub copied_end : (list : Replacement) (s : List ℕ) (t : PlainTree) (limit count : ℕ) (next_start : NextStart) (place : ℕ) (was new : List ℕ)
     → Copied list s t limit count next_start place was
-    → None ≡ up_to limit count (next_span t s next_start.place next_start.advance false)
+    → None ≡ up_to limit count (next_span t s next_start.place (any_end next_start.advance))
     → new ≡ was ++ drop place s → (new ≡ result_of s (spans t s 0 limit) list) × (count ≡ length (spans t s 0 limit))
 copied_end list s t limit count next_start place was new k e n =
     let none = none_is s t limit count next_start e in
     (n ∙ (rw none at k.whole), (let long = ap length none in omega (arith, long, k.number)))
 
 -- the same over equal trees and subjects
-pub over_same : (u t : PlainTree) (v s : List ℕ) (limit count q : ℕ) (advance : Bool) (o : Option Span) → u ≡ t → v ≡ s → o ≡ up_to limit count (next_span u v q advance false) → o ≡ up_to limit count (next_span t s q advance false)
+pub over_same : (u t : PlainTree) (v s : List ℕ) (limit count q : ℕ) (advance : Bool) (o : Option Span) → u ≡ t → v ≡ s → o ≡ up_to limit count (next_span u v q (any_end advance)) → o ≡ up_to limit count (next_span t s q (any_end advance))
 over_same u t v s limit count q advance o et es e = rw (← et, ← es) e
 
-pub moved_same : (u t : PlainTree) (v s : List ℕ) (limit count : ℕ) (next_start after : NextStart) → u ≡ t → v ≡ s → after ≡ start_after (up_to limit count (next_span u v next_start.place next_start.advance false)) next_start → after ≡ start_after (up_to limit count (next_span t s next_start.place next_start.advance false)) next_start
+pub moved_same : (u t : PlainTree) (v s : List ℕ) (limit count : ℕ) (next_start after : NextStart) → u ≡ t → v ≡ s → after ≡ start_after (up_to limit count (next_span u v next_start.place (any_end next_start.advance))) next_start → after ≡ start_after (up_to limit count (next_span t s next_start.place (any_end next_start.advance))) next_start
 moved_same u t v s limit count next_start after et es e = rw (← et, ← es) e
 
 -- after a span the walk is nearer to its end
 pub falls : (list : Replacement) (s : List ℕ) (t : PlainTree) (limit count : ℕ) (next_start after : NextStart) (place : ℕ) (was : List ℕ) (x : Span)
     → Copied list s t limit count next_start place was
-    → Some x ≡ up_to limit count (next_span t s next_start.place next_start.advance false)
-    → after ≡ start_after (up_to limit count (next_span t s next_start.place next_start.advance false)) next_start
+    → Some x ≡ up_to limit count (next_span t s next_start.place (any_end next_start.advance))
+    → after ≡ start_after (up_to limit count (next_span t s next_start.place (any_end next_start.advance))) next_start
     → turns s after.place after.advance + 1 ≤ turns s next_start.place next_start.advance
 falls list s t limit count next_start after place was x k e moved =
     let next = next_is s t limit count next_start x e in
-    let f = next_follows t s next_start.place next_start.advance false x (omega (arith, k.place_is, k.within)) next.next in
+    let f = next_follows t s next_start.place (any_end next_start.advance) x (omega (arith, k.place_is, k.within)) next.next in
     let there = next_after s t limit count next_start after x e moved in
     let fall = turns_fall s next_start.place next_start.advance x f in
     rw there fall

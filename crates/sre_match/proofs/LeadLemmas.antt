@@ -10,7 +10,7 @@ use Rattle.sre_match.specs.declared.matcher.machine.Progress.TheVariants.{More, 
 use Rattle.sre_code.specs.PlainTree.{PlainTree}
 use Rattle.sre_match.specs.Attempts.{Attempt, passed, Marks, stay, chosen, cost_of}
 use Rattle.sre_match.specs.Paths.{paths}
-use Rattle.sre_match.specs.Matches.{first_allowed, reads, is_allowed}
+use Rattle.sre_match.specs.Matches.{Allowed, first_allowed, reads, is_allowed}
 use Rattle.sre_match.specs.Machine.{part_next, onward, to_try, pile, ahead_of, Sound, Less, Leaves, Ends, Gives, Leads}
 use Rattle.sre_match.proofs.AfterLemmas.{after_stay}
 use Rattle.sre_match.proofs.ChoiceLemmas.{pile_pass}
@@ -59,13 +59,13 @@ begins a s t mm ff cc r =
     ∙ after_stay (part_next a.part s a.cursor.place [])
 
 -- what leaves a list has its outcome, at a cost within its own
-pub first_ends : (t : PlainTree) (s : List ℕ) (i : ℕ) (advance whole : Bool) (old mid new : ℕ) (xs : List Attempt) (o : Option (ℕ × Marks)) → i ≤ length s
-    → Leaves old mid (paths t s i []) xs → o ≡ chosen (is_allowed s i advance whole) xs → o ≡ first_allowed t s i advance whole
-first_ends t s i advance whole old mid new xs o le h e = e ∙ sym (first_within t s i advance whole le ∙ (h (is_allowed s i advance whole)).same)
+pub first_ends : (t : PlainTree) (s : List ℕ) (i : ℕ) (a : Allowed) (old mid new : ℕ) (xs : List Attempt) (o : Option (ℕ × Marks)) → i ≤ length s
+    → Leaves old mid (paths t s i []) xs → o ≡ chosen (is_allowed s i a) xs → o ≡ first_allowed t s i a
+first_ends t s i a old mid new xs o le h e = e ∙ sym (first_within t s i a le ∙ (h (is_allowed s i a)).same)
 
-pub first_cost : (t : PlainTree) (s : List ℕ) (i : ℕ) (advance whole : Bool) (old mid new : ℕ) (xs : List Attempt) → i ≤ length s
-    → Leaves old mid (paths t s i []) xs → new ≤ mid + cost_of (is_allowed s i advance whole) xs → new ≤ old + reads t s i advance whole
-first_cost t s i advance whole old mid new xs le h k = omega (arith, k, (h (is_allowed s i advance whole)).cost, reads_there t s i advance whole le)
+pub first_cost : (t : PlainTree) (s : List ℕ) (i : ℕ) (a : Allowed) (old mid new : ℕ) (xs : List Attempt) → i ≤ length s
+    → Leaves old mid (paths t s i []) xs → new ≤ mid + cost_of (is_allowed s i a) xs → new ≤ old + reads t s i a
+first_cost t s i a old mid new xs le h k = omega (arith, k, (h (is_allowed s i a)).cost, reads_there t s i a le)
 
 -- the tree of some nodes
 pub leaves_tree : (n t : PlainTree) (s : List ℕ) (i old new : ℕ) (xs : List Attempt) → n ≡ t → Leaves old new (paths n s i []) xs → Leaves old new (paths t s i []) xs

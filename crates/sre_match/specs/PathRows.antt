@@ -8,7 +8,7 @@ use Rattle.sre_code.specs.PlainTree.{PlainTree, any_all, lit, repeat, look, noth
 use Rattle.sre_match.specs.Anchors.{is_at_anchor}
 use Rattle.sre_match.specs.Attempts.{Next, failed, passed, after, cut, negated, span_of}
 use Rattle.sre_match.specs.Cursor.{fits_text}
-use Rattle.sre_match.specs.Matches.{Span, first_allowed, next_within, next_span, reads, reads_within, next_reads, spans_of, spans}
+use Rattle.sre_match.specs.Matches.{Span, any_end, first_allowed, next_within, next_span, reads, reads_within, next_reads, spans_of, spans}
 use Rattle.sre_match.specs.Members.{is_member}
 use Rattle.sre_match.specs.Paths.{paths}
 use Rattle.sre_match.specs.Rows.{a_or_ab, empty_star, star}
@@ -81,24 +81,24 @@ negative_lookahead_passes = refl
 pub negative_lookahead_fails : paths no_b (codes "ab") 1 [] ≡ failed 1 ∷ []
 negative_lookahead_fails = refl
 
-pub first_of_two : first_allowed a_or_ab (codes "ab") 0 false false ≡ Some (1, [])
+pub first_of_two : first_allowed a_or_ab (codes "ab") 0 (any_end false) ≡ Some (1, [])
 unfolding first_allowed
 first_of_two = refl
 
-pub first_whole : first_allowed a_or_ab (codes "ab") 0 false true ≡ Some (2, [])
+pub first_whole : first_allowed a_or_ab (codes "ab") 0 (record { advance = false; whole = true }) ≡ Some (2, [])
 unfolding first_allowed
 first_whole = refl
 
-pub next_from_the_start : next_span a_any (codes "abac") 0 false false ≡ Some (from_to 0 2)
+pub next_from_the_start : next_span a_any (codes "abac") 0 (any_end false) ≡ Some (from_to 0 2)
 unfolding next_within first_allowed
 next_from_the_start = refl
 
-pub next_from_two : next_span a_any (codes "abac") 2 false false ≡ Some (from_to 2 4)
+pub next_from_two : next_span a_any (codes "abac") 2 (any_end false) ≡ Some (from_to 2 4)
 unfolding next_within first_allowed
 next_from_two = refl
 
 -- one read at each place
-pub reads_of_next : next_reads (lit 97 then nothing) (codes "bba") 0 false false ≡ 3
+pub reads_of_next : next_reads (lit 97 then nothing) (codes "bba") 0 (any_end false) ≡ 3
 unfolding reads_within reads first_allowed
 reads_of_next = refl
 

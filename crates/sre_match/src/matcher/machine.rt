@@ -4,7 +4,7 @@ ghost use Rattle.sre_match.specs.Captures.{captures};
 ghost use Rattle.sre_match.specs.Cursor.{Cursor};
 ghost use Rattle.sre_match.specs.Fits.{task_fits, Fit, Stays, Remains, Ready};
 ghost use Rattle.std.specs.Prelude.{◌≡◌, ◌+◌, ◌≤◌, ℕ, Bool, true, List, [], None, IfOk, IfSome, option_map, length};
-ghost use Rattle.sre_match.specs.Machine.{part_next, task_next, to_try, ahead_of, Sound, Gives, Leaves, Leads, outcome_at, rest_of, tried_at, trying};
+ghost use Rattle.sre_match.specs.Machine.{allowed_by, part_next, task_next, to_try, ahead_of, Sound, Gives, Leaves, Leads, outcome_at, rest_of, tried_at, trying};
 ghost use Rattle.sre_match.specs.Attempts.{chosen, cost_of};
 ghost use Rattle.sre_match.specs.Paths.{paths};
 ghost use Rattle.sre_code.specs.TreeView.{tree_of};
@@ -38,11 +38,19 @@ pub enum Progress {
     NoMemory,
 }
 
+/// Which ends are allowed: with `advance` not the place where the attempt began, and with `whole`
+/// the end of the subject alone.
+#[derive(Clone, Copy, Drop)]
+pub struct Ends {
+    pub advance: bool,
+    pub whole: bool,
+}
+
 // Whether an end is allowed.
-fn is_allowed(len: usize, start: usize, advance: bool, whole: bool, end: usize) -> bool
-    ensures { (s : List ℕ) → length s ≡ len → result ≡ is_allowed s start advance whole end }
+fn is_allowed(len: usize, start: usize, ends: Ends, end: usize) -> bool
+    ensures { (s : List ℕ) → length s ≡ len → result ≡ is_allowed s start (allowed_by ends) end }
 {
-    (!advance || end != start) && (!whole || end == len)
+    (!ends.advance || end != start) && (!ends.whole || end == len)
 }
 
 // What a frame does is next.
@@ -153,13 +161,12 @@ fn next_turn<'t, S: StrDrive, L: Ledger>(
     current: &mut Current<'t>,
     trail: &mut Trail<'t>,
     start: usize,
-    advance: bool,
-    whole: bool,
+    ends: Ends,
     steps: &mut Steps<L>,
 ) -> Progress
     requires ready { Ready (S.fits s.now) current.old trail.old }
     requires counter { S.counts L.name }
-    ensures leads { let is_end = is_allowed s.now start advance whole in
+    ensures leads { let is_end = is_allowed s.now start (allowed_by ends) in
         Leads result current.new is_end s.now trail.new steps.old steps.new
         (ahead_of current.old s.now trail.old) }
     ensures ready { Remains result (S.fits s.now) current.new trail.new }
@@ -168,7 +175,7 @@ fn next_turn<'t, S: StrDrive, L: Ledger>(
         Turn::Go => Progress::More,
         Turn::Fail => retry(current, trail),
         Turn::Done => {
-            if is_allowed(s.count(), start, advance, whole, current.cursor.place) {
+            if is_allowed(s.count(), start, ends, current.cursor.place) {
                 Progress::Found
             } else {
                 retry(current, trail)
@@ -227,21 +234,20 @@ fn run_from<'t, S: StrDrive, L: Ledger>(
     trail: &mut Trail<'t>,
     s: &Subject<'_, S>,
     start: usize,
-    advance: bool,
-    whole: bool,
+    ends: Ends,
     steps: &mut Steps<L>,
 ) -> Result<Option<StringCursor>, AllocError>
     requires ready { Ready (S.fits s.now) current trail.old }
     requires counter { S.counts L.name }
     ensures fits { IfOk result (λ o. IfSome o (λ c. S.fits s.now c ≡ true)) }
     ensures found { IfOk result (λ o. option_map (outcome_at (captures trail.new.marks.items)) o
-        ≡ chosen (is_allowed s.now start advance whole) (ahead_of current.entry s.now trail.old)) }
-    ensures cost { let is_end = is_allowed s.now start advance whole in
+        ≡ chosen (is_allowed s.now start (allowed_by ends)) (ahead_of current.entry s.now trail.old)) }
+    ensures cost { let is_end = is_allowed s.now start (allowed_by ends) in
         steps.new ≤ steps.old + cost_of is_end (ahead_of current.entry s.now trail.old) }
 {
     let mut current = current;
     for _turn in 0..u64::MAX {
-        match next_turn(s, &mut current, trail, start, advance, whole, steps) {
+        match next_turn(s, &mut current, trail, start, ends, steps) {
             Progress::More => {}
             Progress::Found => return Ok(Some(current.cursor)),
             Progress::Nothing => return Ok(None),
@@ -257,22 +263,21 @@ pub fn find_at<'t, S: StrDrive, L: Ledger>(
     tree: &'t Tree,
     s: &Subject<'_, S>,
     start: &StringCursor,
-    advance: bool,
-    whole: bool,
+    ends: Ends,
     steps: &mut Steps<L>,
 ) -> Result<Option<StringCursor>, AllocError>
     requires fits { S.fits s.now start.now ≡ true }
     requires counter { S.counts L.name }
     ensures fits { IfOk result (λ o. IfSome o (λ c. S.fits s.now c ≡ true)) }
     ensures found { IfOk result (λ o. option_map (outcome_at (captures trail.new.marks.items)) o
-        ≡ first_allowed tree.now s.now start.now.place advance whole) }
-    ensures cost { steps.new ≤ steps.old + reads tree.now s.now start.now.place advance whole }
+        ≡ first_allowed tree.now s.now start.now.place (allowed_by ends)) }
+    ensures cost { steps.new ≤ steps.old + reads tree.now s.now start.now.place (allowed_by ends) }
 {
     match first_current(tree.nodes(), s, start, steps) {
         None => Ok(None),
         Some(current) => {
             clear(trail);
-            run_from(current, trail, s, start.place, advance, whole, steps)
+            run_from(current, trail, s, start.place, ends, steps)
         }
     }
 }

@@ -4,8 +4,9 @@ ghost use Rattle.sre_match.specs.Captures.{captures};
 ghost use Rattle.std.specs.Prelude.{◌≡◌, ◌≤◌, ◌+◌, true, None, IfOk, IfSome, option_map, length};
 ghost use Rattle.sre_match.specs.Machine.{outcome_at, span_with};
 ghost use Rattle.sre_match.specs.Matches.{first_allowed, reads, next_span, next_reads};
+ghost use Rattle.sre_match.specs.Search.{allowed_in};
 
-use crate::matcher::machine::find_at;
+use crate::matcher::machine::{Ends, find_at};
 use crate::matcher::subject::Subject;
 use crate::matcher::trail::Trail;
 use crate::request::Request;
@@ -27,21 +28,17 @@ pub fn first_end<'c, S: StrDrive, L: Ledger>(
     ensures fits { IfOk result (λ o. IfSome o (λ c. S.fits request.now.subject c ≡ true)) }
     ensures found { let r = request.now in
         IfOk result (λ o. option_map (outcome_at (captures trail.new.marks.items)) o
-        ≡ first_allowed r.tree r.subject start.now.place advance r.whole) }
+        ≡ first_allowed r.tree r.subject start.now.place (allowed_in r advance)) }
     ensures cost { let r = request.now in
-        steps.new ≤ steps.old + reads r.tree r.subject start.now.place advance r.whole }
+        steps.new ≤ steps.old + reads r.tree r.subject start.now.place (allowed_in r advance) }
 {
     let subject = Subject::new(&request.string, request.end);
     let code = request.code;
-    find_at(
-        trail,
-        code.tree(),
-        &subject,
-        start,
+    let ends = Ends {
         advance,
-        request.match_all,
-        steps,
-    )
+        whole: request.match_all,
+    };
+    find_at(trail, code.tree(), &subject, start, ends, steps)
 }
 
 // One unit on, where there is one.
@@ -75,9 +72,9 @@ pub fn next_ends<'c, S: StrDrive, L: Ledger>(
     ensures fits { IfOk result (λ o. IfSome o (λ x. S.fits request.now.subject x.1 ≡ true)) }
     ensures found { let r = request.now in
         IfOk result (λ o. option_map (span_with (captures trail.new.marks.items)) o
-        ≡ next_span r.tree r.subject from.now.place advance r.whole) }
+        ≡ next_span r.tree r.subject from.now.place (allowed_in r advance)) }
     ensures cost { let r = request.now in
-        steps.new ≤ steps.old + next_reads r.tree r.subject from.now.place advance r.whole }
+        steps.new ≤ steps.old + next_reads r.tree r.subject from.now.place (allowed_in r advance) }
 {
     let mut start = *from;
     let mut moves = advance;

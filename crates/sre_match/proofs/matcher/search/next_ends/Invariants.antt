@@ -1,11 +1,12 @@
 use Rattle.std.proofs.Common.{◌≡◌, ◌-◌, ◌+◌, ◌≤◌, true, length}
 use Rattle.sre_match.specs.Matches.{next_span, next_reads}
+use Rattle.sre_match.specs.Search.{allowed_in}
 use Rattle.sre_match.proofs.matcher.search.next_ends.Given as goal
 
 abbrev pub invariant-places : goal.invariant-places
 invariant-places g l = record {
-  same : next_span l.request.tree l.request.subject l.start.place l.moves l.request.whole ≡ next_span l.request.tree l.request.subject l.from.place l.advance l.request.whole;
-  cost : l.steps + next_reads l.request.tree l.request.subject l.start.place l.moves l.request.whole ≤ l.fn.steps + next_reads l.request.tree l.request.subject l.from.place l.advance l.request.whole;
+  same : next_span l.request.tree l.request.subject l.start.place (allowed_in l.request l.moves) ≡ next_span l.request.tree l.request.subject l.from.place (allowed_in l.request l.advance);
+  cost : l.steps + next_reads l.request.tree l.request.subject l.start.place (allowed_in l.request l.moves) ≤ l.fn.steps + next_reads l.request.tree l.request.subject l.from.place (allowed_in l.request l.advance);
   fits : g.S.StrDrive.fits l.request.subject l.start ≡ true;
 }
 
