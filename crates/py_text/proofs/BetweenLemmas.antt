@@ -1,10 +1,12 @@
 -- The pieces between whitespace.
-use Rattle.std.specs.Prelude.{◌≡◌, ◌≢◌, ℕ, zero, suc, Bool, true, false, not, cond, if◌then◌else◌, All, List, [], ◌∷◌, take_while, length}
-use Rattle.std.proofs.Common.{refl, ap, sym, ◌∙◌, subst}
+use Rattle.std.specs.Prelude.{◌≡◌, ◌≢◌, ℕ, zero, suc, ◌<◌, Bool, true, false, not, cond, if◌then◌else◌, All, List, [], ◌∷◌, ◌++◌, map, reverse, take_while, length}
+use Rattle.std.proofs.Common.{refl, ap, sym, ◌∙◌, subst, arith}
+use Rattle.std.proofs.lemmas.List.{length-map, length-reverse, reverse-append, reverse-reverse}
 use Rattle.std.proofs.lemmas.List.Sums.{take_while-cons}
-use Rattle.std.proofs.lemmas.List.Elements.{All-nil, All-cons}
+use Rattle.std.proofs.lemmas.List.Elements.{All-nil, All-cons, All-head, All-tail, All-append, All-map}
 use Rattle.py_base.specs.Chars.Whitespace.{is_ascii_whitespace, skip_while}
-use Rattle.py_text.specs.Laws.{AllButLast, HasNoWhitespace, AreBetweenWhitespace, PiecesBetweenWhitespace}
+use Rattle.py_text.specs.Laws.{AllButLast, AllButFirst, HasNoWhitespace, AreBetweenWhitespace, PiecesBetweenWhitespace, PiecesBetweenFromRight}
+use Rattle.py_text.specs.Mirror.{mirrored}
 use Rattle.py_text.specs.Pieces.{limit}
 use Rattle.py_text.specs.Whitespace.{until_whitespace, from_whitespace, split_whitespace}
 
@@ -57,3 +59,36 @@ clean (suc k) L = clean_more k L (skip_while is_ascii_whitespace L) refl (λ N. 
 
 pub between_whitespace : PiecesBetweenWhitespace
 between_whitespace = λ m L. clean (limit (length L) m) L
+
+-- of each in a list turned round the same holds
+turned_all : {X : Type 0} (P : X → Type 0) (xs : List X) → All P xs → All P (reverse xs)
+turned_all P [] h = h
+turned_all P (x ∷ xs) h =
+    subst (All P) (sym (reverse-append (x ∷ []) xs))
+    (All-append P (reverse xs) (x ∷ []) (turned_all P xs (All-tail P x xs h)) (All-cons P x [] (All-head P x xs h) (All-nil P)))
+
+turned_some : (p : List ℕ) → p ≢ [] → reverse p ≢ []
+turned_some p n e = n (sym (reverse-reverse p) ∙ ap reverse e)
+
+all_turned_some : (ps : List (List ℕ)) → All (λ p. p ≢ []) ps → All (λ p. p ≢ []) (mirrored ps)
+all_turned_some ps h =
+    turned_all (λ p. p ≢ []) (map reverse ps) (All-map (λ p. p ≢ []) reverse ps (λ k d lt. turned_some _ (h k d lt)))
+
+but_first_more : (P : List ℕ → Type 0) (x : List ℕ) (ps : List (List ℕ)) → 0 < length ps → AllButFirst P ps → P x → AllButFirst P (ps ++ x ∷ [])
+but_first_more P x [] some h p = absurd (omega arith)
+but_first_more P x (y ∷ ys) some h p = All-append P ys (x ∷ []) h (All-cons P x [] p (All-nil P))
+
+mirrored_length : (ps : List (List ℕ)) → length (mirrored ps) ≡ length ps
+mirrored_length ps = length-reverse (map reverse ps) ∙ length-map ps reverse
+
+but_last_turned : (ps : List (List ℕ)) → AllButLast HasNoWhitespace ps → AllButFirst HasNoWhitespace (mirrored ps)
+but_last_turned [] h = tt
+but_last_turned (p ∷ []) h = All-nil HasNoWhitespace
+but_last_turned (p ∷ q ∷ qs) h =
+    subst (AllButFirst HasNoWhitespace) (sym (reverse-append (reverse p ∷ []) (map reverse (q ∷ qs))))
+    (but_first_more HasNoWhitespace (reverse p) (mirrored (q ∷ qs)) (omega (arith, mirrored_length (q ∷ qs))) (but_last_turned (q ∷ qs) h.1) (turned_all (λ c. is_ascii_whitespace c ≡ false) p h.0))
+
+pub between_from_right : PiecesBetweenFromRight
+between_from_right = λ m L.
+    let turned = clean (limit (length L) m) (reverse L) in
+    record { not_empty = all_turned_some _ turned.not_empty; no_whitespace = but_last_turned _ turned.no_whitespace }

@@ -1,17 +1,16 @@
 -- Cut texts, joined again, and limits that take all.
-use Rattle.std.proofs.Common.{◌≡◌, ◌≢◌, ℕ, ◌+◌, ◌-◌, ◌<◌, ◌≤◌, inl, inr, not, max, Bool, true, false, if◌then◌else◌, List, [], ◌∷◌, ◌++◌, map, reverse, length, take, drop, slice_range, suc, zero, refl, ap, sym, ◌∙◌, arith, subst, Option, Some, None, append_assoc, append-nil, take-append-drop, drop-drop}
+use Rattle.std.proofs.Common.{◌≡◌, ◌≢◌, ℕ, ◌+◌, ◌-◌, ◌<◌, ◌≤◌, not, max, Bool, true, false, if◌then◌else◌, List, [], ◌∷◌, ◌++◌, map, reverse, length, take, drop, slice_range, suc, zero, refl, ap, sym, ◌∙◌, arith, subst, Option, Some, None, append_assoc, append-nil, take-append-drop, drop-drop}
 use Rattle.std.proofs.lemmas.List.{length-reverse, reverse-append, reverse-reverse, nil_from_length, drop_at}
-use Rattle.std.specs.Option.{option_or}
 use Rattle.py_base.specs.Chars.Whitespace.{is_ascii_whitespace, skip_while}
 use Rattle.py_text.specs.Whitespace.{from_whitespace, until_whitespace, split_whitespace}
-use Rattle.py_text.specs.Occurrences.{occurrences, occurs_at, first_in, last_in, least, greatest}
+use Rattle.py_text.specs.Occurrences.{occurrences, first_in, last_in}
 use Rattle.py_text.specs.Pieces.{pieces, split, limit}
 use Rattle.py_text.specs.Replacing.{join}
 use Rattle.py_text.specs.Mirror.{mirrored}
 use Rattle.py_text.specs.Partitions.{partition, rpartition, parted_at}
-use Rattle.py_text.specs.Laws.{FirstIsLeast, LastIsGreatest, NoMoreOccurrences, NoMoreReplaced, NoMoreWhitespacePieces, LinesAreTheText, PiecesAreTheText, PiecesFromRightAreTheText, PartsAreTheText}
-use Rattle.py_text.proofs.OccursLemmas.{OccursAt, occurs_means, below_or_last}
-use Rattle.py_text.proofs.WindowLemmas.{first_means, last_means, first_outside, least_means}
+use Rattle.py_text.specs.Laws.{NoMoreOccurrences, NoMoreReplaced, NoMoreWhitespacePieces, LinesAreTheText, PiecesAreTheText, PiecesFromRightAreTheText, PartsAreTheText}
+use Rattle.py_text.proofs.OccursLemmas.{OccursAt}
+use Rattle.py_text.proofs.WindowLemmas.{first_means, last_means, first_outside}
 use Rattle.py_text.proofs.OccurrenceLemmas.{cuts_some, cuts_none, max_one}
 use Rattle.py_text.proofs.ReplacingLemmas.{joined_on}
 use Rattle.py_text.proofs.LineLemmas.{skip_le, lines_joined}
@@ -147,31 +146,3 @@ words_enough (suc k) j L h =
 
 pub no_more_pieces : NoMoreWhitespacePieces
 no_more_pieces = λ k more L h. words_enough k more L h
-
--- the first and the last place
-least_case : (p : ℕ → Bool) (n : ℕ) (o : Option ℕ) → p n ≡ true → ((c : ℕ) → o ≡ Some c → (p c ≡ true) × (c < n)) → (c : ℕ) × (option_or o (if p n then Some n else None) ≡ Some c) × (p c ≡ true) × (c ≤ n)
-least_case p n None h f = (n, ap (λ t. if t then Some n else None) h, h, omega arith)
-least_case p n (Some c) h f = let r = f c refl in (c, refl, r.0, omega (arith, r.1))
-
-least_found : (p : ℕ → Bool) (n a : ℕ) → p a ≡ true → a < n → (c : ℕ) × (least p n ≡ Some c) × (p c ≡ true) × (c ≤ a)
-least_found p zero a h l = absurd (omega arith)
-least_found p (suc n) a h l =
-    elim (below_or_last a n l) [
-      | inl k ↦ let r = least_found p n a h k in (r.0, ap (λ o. option_or o (if p n then Some n else None)) r.1, r.2, r.3)
-      | inr k ↦ let r = least_case p n (least p n) (subst (λ (m : ℕ). p m ≡ true) k h) (λ c e. least_means p n c e) in (r.0, r.1, r.2, omega (arith, r.3))
-    ]
-
-greatest_case : (p : ℕ → Bool) (n a : ℕ) (t : Bool) → p n ≡ t → p a ≡ true → a < suc n → (a < n → (c : ℕ) × (greatest p n ≡ Some c) × (p c ≡ true) × (a ≤ c)) → (c : ℕ) × ((if t then Some n else greatest p n) ≡ Some c) × (p c ≡ true) × (a ≤ c)
-greatest_case p n a true e h l f = (n, refl, e, omega arith)
-greatest_case p n a false e h l f =
-    elim (below_or_last a n l) [ inl k ↦ f k | inr k ↦ absurd (let s : p n ≡ true = subst (λ (m : ℕ). p m ≡ true) k h in cc) ]
-
-greatest_found : (p : ℕ → Bool) (n a : ℕ) → p a ≡ true → a < n → (c : ℕ) × (greatest p n ≡ Some c) × (p c ≡ true) × (a ≤ c)
-greatest_found p zero a h l = absurd (omega arith)
-greatest_found p (suc n) a h l = greatest_case p n a (p n) refl h l (greatest_found p n a h)
-
-pub first_is_least : FirstIsLeast
-first_is_least = λ x L b e a h. least_found (occurs_at x L b e) (suc e) a h (omega (arith, (occurs_means x L b e a h).to))
-
-pub last_is_greatest : LastIsGreatest
-last_is_greatest = λ x L b e a h. greatest_found (occurs_at x L b e) (suc e) a h (omega (arith, (occurs_means x L b e a h).to))

@@ -6,6 +6,7 @@ pub mod BuildingLemmas
 pub mod CursorLemmas
 pub mod EndLemmas
 pub mod LawLemmas
+pub mod LeastLemmas
 pub mod LineLemmas
 pub mod MirrorLemmas
 pub mod OccurrenceLemmas

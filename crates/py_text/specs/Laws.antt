@@ -1,8 +1,7 @@
 -- Laws of texts and bytes.
-use Rattle.std.specs.Prelude.{◌≡◌, ◌<◌, ◌≤◌, ◌≤ℤ◌, ◌↔◌, ◌≢◌, ⊤, ℕ, ◌+◌, zero, suc, ℤ, pos, nat_eq, Bool, IsTrue, true, false, All, List, [], ◌∷◌, ◌++◌, length, Option, Some, None}
+use Rattle.std.specs.Prelude.{◌≡◌, ◌<◌, ◌≤◌, ◌≤ℤ◌, ◌↔◌, ◌≢◌, ⊤, ℕ, ◌+◌, zero, suc, ℤ, pos, Bool, IsTrue, true, false, All, List, [], ◌∷◌, ◌++◌, length, Option, Some, None}
 use Rattle.std.specs.List.{concat}
 use Rattle.std.specs.Option.{option_to_list}
-use Rattle.std.specs.Cmp.Lexicographic.{pointwise}
 use Rattle.std.specs.declared.cmp.Ordering.{Ordering}
 use Rattle.std.specs.declared.cmp.Ordering.TheVariants.{Less, Equal, Greater}
 use Rattle.py_base.specs.Chars.Whitespace.{is_ascii_whitespace}
@@ -41,14 +40,14 @@ abbrev pub AreComparedAsOrdered : (List ℕ → List ℕ → Option Ordering)
     → (List ℕ → List ℕ → Ordering) → Type 0
 AreComparedAsOrdered partial_cmp cmp = (a b : List ℕ) → partial_cmp a b ≡ Some (cmp a b)
 
--- equal texts hash alike, under each seed
-abbrev pub EqualHashes : Type 0
-EqualHashes =
-    (seed : ℕ) (a b : List ℕ) → IsTrue (pointwise nat_eq a b) → text_hash seed a ≡ text_hash seed b
+-- what an equality takes for equal makes the same writes to a hasher
+abbrev pub HashAlike : {X : Type 0} → (X → X → Bool) → (X → List (List ℕ)) → Type 0
+HashAlike {X} eq hash_input = (a b : X) → IsTrue (eq a b) → hash_input a ≡ hash_input b
 
--- a sum is as long as both texts
-abbrev pub LengthOfSum : Type 0
-LengthOfSum = (a b : List ℕ) → length (a ++ b) ≡ length a + length b
+-- and, of texts, has the same hash under each seed
+abbrev pub HaveOneHash : (List ℕ → List ℕ → Bool) → Type 0
+HaveOneHash eq =
+    (seed : ℕ) (a b : List ℕ) → IsTrue (eq a b) → text_hash seed a ≡ text_hash seed b
 
 -- what so many calls of `next` give
 abbrev pub given : ℕ → Option Position → List ℕ
@@ -75,17 +74,25 @@ NoMorePlaces = (n more : ℕ) (start stop : Option ℤ) (step : ℤ) → step �
     → places_from (n + more) step (stop_of n step stop) (start_of n step start)
     ≡ places_from n step (stop_of n step stop) (start_of n step start)
 
--- where x occurs in a part of a text, the first place found is there and not past it
-abbrev pub FirstIsLeast : Type 0
-FirstIsLeast =
-    (x L : List ℕ) (b e a : ℕ) → occurs_at x L b e a ≡ true
-    → (c : ℕ) × (first_in x L b e ≡ Some c) × (occurs_at x L b e c ≡ true) × (c ≤ a)
+-- this is the least number that passes, and none exactly where no number does
+pub record IsLeast (passes : ℕ → Bool) (found : Option ℕ) : Type 0 where
+  pub some : (a : ℕ) → (found ≡ Some a)
+      ↔ ((passes a ≡ true) × ((c : ℕ) → passes c ≡ true → a ≤ c))
+  pub none : (found ≡ None) ↔ ((a : ℕ) → passes a ≡ false)
 
--- and the last place found is not before it
+-- this is the greatest one, and none exactly where no number does
+pub record IsGreatest (passes : ℕ → Bool) (found : Option ℕ) : Type 0 where
+  pub some : (a : ℕ) → (found ≡ Some a)
+      ↔ ((passes a ≡ true) × ((c : ℕ) → passes c ≡ true → c ≤ a))
+  pub none : (found ≡ None) ↔ ((a : ℕ) → passes a ≡ false)
+
+-- what `find` answers in any part of a text is the least of the places at which x occurs there
+abbrev pub FirstIsLeast : Type 0
+FirstIsLeast = (x L : List ℕ) (b e : ℕ) → IsLeast (occurs_at x L b e) (first_in x L b e)
+
+-- and what `rfind` answers is the greatest
 abbrev pub LastIsGreatest : Type 0
-LastIsGreatest =
-    (x L : List ℕ) (b e a : ℕ) → occurs_at x L b e a ≡ true
-    → (c : ℕ) × (last_in x L b e ≡ Some c) × (occurs_at x L b e c ≡ true) × (a ≤ c)
+LastIsGreatest = (x L : List ℕ) (b e : ℕ) → IsGreatest (occurs_at x L b e) (last_in x L b e)
 
 -- a window from b to e has at most e + 1 - b places: to look for more gives no more
 abbrev pub NoMoreOccurrences : Type 0
@@ -110,18 +117,32 @@ AllButLast P [] = ⊤
 AllButLast P (p ∷ []) = ⊤
 AllButLast P (p ∷ q ∷ ps) = P p × AllButLast P (q ∷ ps)
 
+-- P holds of each but the first
+abbrev pub AllButFirst : (List ℕ → Type 0) → List (List ℕ) → Type 0
+AllButFirst P [] = ⊤
+AllButFirst P (p ∷ ps) = All P ps
+
 -- no code point of the list is whitespace
 abbrev pub HasNoWhitespace : List ℕ → Type 0
 HasNoWhitespace p = All (λ c. is_ascii_whitespace c ≡ false) p
 
--- pieces between whitespace
+-- pieces between whitespace, and what is after them as the last
 pub record AreBetweenWhitespace (ps : List (List ℕ)) : Type 0 where
   pub not_empty : All (λ p. p ≢ []) ps
   pub no_whitespace : AllButLast HasNoWhitespace ps
 
+-- pieces between whitespace, and what is before them as the first
+pub record AreBetweenFromRight (ps : List (List ℕ)) : Type 0 where
+  pub not_empty : All (λ p. p ≢ []) ps
+  pub no_whitespace : AllButFirst HasNoWhitespace ps
+
 -- the pieces of `split` without a separator are such, for each maxsplit
 abbrev pub PiecesBetweenWhitespace : Type 0
 PiecesBetweenWhitespace = (m : ℤ) (L : List ℕ) → AreBetweenWhitespace (split_by None m L)
+
+-- and so are those of `rsplit`
+abbrev pub PiecesBetweenFromRight : Type 0
+PiecesBetweenFromRight = (m : ℤ) (L : List ℕ) → AreBetweenFromRight (rsplit_by None m L)
 
 -- the lines with their ends, joined, are the text
 abbrev pub LinesAreTheText : Type 0

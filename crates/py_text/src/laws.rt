@@ -1,10 +1,11 @@
 //! Laws of texts and bytes: facts that follow from the definitions, and from each type's own
 //! equality and order.
 
-ghost use Rattle.py_text.specs.Laws.{AreEqualAsLists, AreOrderedByFirstDifference, HavePrefixesFirst, AreEqualInOrder, AreComparedAsOrdered, EqualHashes, LengthOfSum, GivesTheRest, NothingPastTheEnd, StaysExhausted, NoMorePlaces, FirstIsLeast, LastIsGreatest, NoMoreOccurrences, NoMoreReplaced, NoMoreWhitespacePieces, PiecesBetweenWhitespace, LinesAreTheText, PiecesAreTheText, PiecesFromRightAreTheText, PartsAreTheText};
+ghost use Rattle.py_text.specs.Laws.{AreEqualAsLists, AreOrderedByFirstDifference, HavePrefixesFirst, AreEqualInOrder, AreComparedAsOrdered, HashAlike, HaveOneHash, GivesTheRest, NothingPastTheEnd, StaysExhausted, NoMorePlaces, FirstIsLeast, LastIsGreatest, NoMoreOccurrences, NoMoreReplaced, NoMoreWhitespacePieces, PiecesBetweenWhitespace, PiecesBetweenFromRight, LinesAreTheText, PiecesAreTheText, PiecesFromRightAreTheText, PartsAreTheText};
 
 use crate::bytes::PyBytes;
 use crate::text::PyStr;
+use std::hash::Hash;
 
 /// Two texts are equal exactly where their code points are.
 pub fn texts_equal_as_lists()
@@ -56,14 +57,19 @@ pub fn bytes_compared_as_ordered()
     ensures { AreComparedAsOrdered ⟦<PyBytes as PartialOrd>⟧.partial_cmp ⟦<PyBytes as Ord>⟧.cmp }
 {}
 
-/// Equal texts hash alike.
+/// Texts that are equal by `==` make the same writes to a hasher.
 pub fn equal_texts_hash_alike()
-    ensures { EqualHashes }
+    ensures { HashAlike ⟦<PyStr as PartialEq>⟧.eq ⟦<PyStr as Hash>⟧.hash_input }
 {}
 
-/// A sum is as long as both texts.
-pub fn length_of_a_sum()
-    ensures { LengthOfSum }
+/// Bytes objects that are equal by `==` make the same writes to a hasher.
+pub fn equal_bytes_hash_alike()
+    ensures { HashAlike ⟦<PyBytes as PartialEq>⟧.eq ⟦<PyBytes as Hash>⟧.hash_input }
+{}
+
+/// `py_hash` answers the same of texts that are equal by `==`, under each seed.
+pub fn equal_texts_have_one_hash()
+    ensures { HaveOneHash ⟦<PyStr as PartialEq>⟧.eq }
 {}
 
 /// An iterator gives the code points from its place on.
@@ -86,12 +92,13 @@ pub fn slices_take_no_more_places()
     ensures { NoMorePlaces }
 {}
 
-/// The place that `find` answers is the least one.
+/// The place that `find` answers is the least one, and it answers none exactly where there is none.
 pub fn first_place_is_the_least()
     ensures { FirstIsLeast }
 {}
 
-/// The place that `rfind` answers is the greatest one.
+/// The place that `rfind` answers is the greatest one, and it answers none exactly where there is
+/// none.
 pub fn last_place_is_the_greatest()
     ensures { LastIsGreatest }
 {}
@@ -115,6 +122,12 @@ pub fn no_more_whitespace_pieces()
 /// whitespace.
 pub fn pieces_between_whitespace()
     ensures { PiecesBetweenWhitespace }
+{}
+
+/// Of the pieces of `rsplit` without a separator none is empty, and none but the first has
+/// whitespace.
+pub fn pieces_between_from_right()
+    ensures { PiecesBetweenFromRight }
 {}
 
 /// The lines with their ends, joined, are the text.

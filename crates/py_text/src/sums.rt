@@ -1,6 +1,6 @@
 //! Texts added and repeated.
 
-ghost use Rattle.std.specs.Prelude.{◌≡◌, [], ◌++◌, chars, length, IsOk, IfOk, IsOkUnless};
+ghost use Rattle.std.specs.Prelude.{◌≡◌, ◌+◌, [], ◌++◌, chars, length, IsOk, IfOk, IsOkUnless};
 ghost use Rattle.py_text.specs.Sums.{times, copies};
 
 use crate::points::count_points;
@@ -12,6 +12,7 @@ impl PyStr {
     /// This text and then the other. (Python Library Reference, Common Sequence Operations.)
     pub fn add(&self, alloc: Global, other: &PyStr) -> PyResult<PyStr>
         ensures ok { IfOk result (λ made. made ≡ self.now ++ other.now) }
+        ensures length { IfOk result (λ made. length made ≡ length self.now + length other.now) }
         ensures err { IsOkUnless result PyError.NoMemory }
     {
         self.add_counted(alloc, other.as_str(), other.len())
