@@ -2,6 +2,7 @@ pub mod BitLemmas
 pub mod ByteDigitLemmas
 pub mod BytesLemmas
 pub mod DecimalLemmas
+pub mod DigitLemmas
 pub mod DivideLemmas
 pub mod EuclidLemmas
 pub mod InverseLemmas

@@ -1,12 +1,15 @@
 -- Laws of integers.
-use Rattle.std.specs.Prelude.{◌≡◌, ◌≢◌, ◌↔◌, ◌^◌, ℕ, ℤ, pos, Bool, true, false, Ok}
+use Rattle.std.specs.Prelude.{◌≡◌, ◌≢◌, ◌≤◌, ◌↔◌, ◌^◌, ℕ, ℤ, pos, Bool, true, false, All, List, [], ◌∷◌, Some, Ok}
+use Rattle.std.specs.List.{concat}
+use Rattle.std.specs.Str.Parse.{AllDigits, digits_value}
 use Rattle.std.specs.Fmt.{signed_decimal}
 use Rattle.py_base.specs.Hash.{int_hash}
+use Rattle.py_text.specs.Replacing.{join}
 use Rattle.py_int.specs.declared.bytes.ArgByteOrder.{ArgByteOrder}
 use Rattle.py_int.specs.Bits.{bit}
 use Rattle.py_int.specs.Bytes.{in_order, number_of, bytes_in, holds}
 use Rattle.py_int.specs.Divide.{IsDivision, floor_div, floor_mod}
-use Rattle.py_int.specs.Literal.{int_of}
+use Rattle.py_int.specs.Literal.{digits, greatest_base, int_of}
 use Rattle.py_int.specs.Number.{wide}
 use Rattle.py_int.specs.Power.{HaveCommonDivisor, IsInverse}
 use Rattle.py_int.specs.Round.{IsNearestMultiple, rounded}
@@ -41,3 +44,21 @@ EqualNumbersHashAlike = (a b : ℤ) → a ≡ b → int_hash a ≡ int_hash b
 -- two integers with the same bits are one
 abbrev pub NumbersAreTheirBits : Type 0
 NumbersAreTheirBits = (a b : ℤ) → ((k : ℕ) → bit a k ≡ bit b k) → a ≡ b
+
+-- digits of a base, at least one
+abbrev pub IsRun : ℕ → List ℕ → Type 0
+IsRun base run = (run ≢ []) × AllDigits base run
+
+-- cs is runs of digits joined by single underscores, at least one, and n is the number that all
+-- their digits write
+pub record AreRuns (base : ℕ) (cs : List ℕ) (n : ℕ) : Type 0 where
+  pub runs : List (List ℕ)
+  pub some : runs ≢ []
+  pub each : All (IsRun base) runs
+  pub written : cs ≡ join (95 ∷ []) runs
+  pub value : n ≡ digits_value base (concat runs)
+
+-- what is read as digits is just that
+abbrev pub DigitsAreRuns : Type 0
+DigitsAreRuns = (base n : ℕ) (cs : List ℕ) → base ≤ greatest_base →
+    (digits base cs ≡ Some n) ↔ AreRuns base cs n

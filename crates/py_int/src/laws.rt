@@ -2,7 +2,7 @@
 
 ghost use Rattle.std.specs.Prelude.{◌≡◌, ◌↔◌, ℤ, ◌<ℤ◌, IsTrue, Some};
 ghost use Rattle.std.specs.Ordering.{int_cmp, partial_lt};
-ghost use Rattle.py_int.specs.Laws.{BytesSpellTheNumber, DivisionIsOnePair, EqualNumbersHashAlike, NoInverseIsCommonDivisor, NumbersAreTheirBits, ReprReadsBack, RoundingIsNearest};
+ghost use Rattle.py_int.specs.Laws.{BytesSpellTheNumber, DigitsAreRuns, DivisionIsOnePair, EqualNumbersHashAlike, NoInverseIsCommonDivisor, NumbersAreTheirBits, ReprReadsBack, RoundingIsNearest};
 
 use crate::number::PyInt;
 use std::cmp::Ordering;
@@ -21,6 +21,12 @@ pub fn no_inverse_is_common_divisor()
 /// one of the even quotient.
 pub fn rounding_is_nearest()
     ensures { RoundingIsNearest }
+{}
+
+/// The digits of a literal are runs of digits with single underscores between, and are read as the
+/// number that they write without these.
+pub fn digits_are_runs()
+    ensures { DigitsAreRuns }
 {}
 
 /// `int(repr(n))` is the integer, and so is `int(repr(n), 0)`.
