@@ -46,7 +46,7 @@ reads_digit base seen n cs i p h l =
     let t : nat_lt (digit_value (get_or cs i 0)) base ≡ true = grind (arith, nat_tests) in
     rw (drop_more cs i 0 h, t) (saturated_same base true (n * base + digit_value (get_or cs i 0)) (min (n * base + digit_value (get_or cs i 0)) (2 ^ 128 - 1)) (drop (i + 1) cs) p (omega arith))
 
--- or an underscore behind a digit
+-- or an underscore after a digit
 pub reads_underscore : (base n : ℕ) (cs : List ℕ) (i : ℕ) → i < length cs → base ≤ digit_value (get_or cs i 0) → get_or cs i 0 ≡ 95 → digits_after base true n (drop i cs) ≡ digits_after base false n (drop (i + 1) cs)
 reads_underscore base n cs i h l e =
     let f : nat_lt (digit_value (get_or cs i 0)) base ≡ false = grind (arith, nat_tests) in

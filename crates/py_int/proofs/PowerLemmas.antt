@@ -85,7 +85,7 @@ refused_power z (pos k) h l =
     rw (power_is z k, wide_int_pow z k h (omega (arith, ints))) refl
 refused_power z (negsuc k) h l = absurd (omega (arith, ints))
 
--- what a checked operation gives is the number, or the refusal
+-- what a checked operation gives is the number, or the error
 narrow_fits : (z : ℤ) → FitsSigned w128 z → wide z ≡ false
 narrow_fits (pos n) f = let g : n < 2 ^ 127 = f.sfits in grind (arith, nat_tests)
 narrow_fits (negsuc n) f = let g : n < 2 ^ 127 = f.sfits in grind (arith, nat_tests)

@@ -11,7 +11,7 @@ use Rattle.py_text.specs.Affixes.{same, without_prefix, without_suffix}
 same_self : (xs : List ℕ) → same xs xs ≡ true
 same_self xs = (bytes_decides xs xs).1 refl
 
--- what stands behind a prefix, and before a suffix
+-- what is after a prefix, and before a suffix
 after : (p q L : List ℕ) → L ≡ p ++ q → without_prefix p L ≡ q
 after p q L e =
     let front : take (length p) L ≡ p = ap (take (length p)) e ∙ take-append_seam p q in

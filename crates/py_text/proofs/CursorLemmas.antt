@@ -10,7 +10,7 @@ use Rattle.py_text.specs.Iterator.{IsCursor}
 use Rattle.py_text.proofs.PointLemmas.{is_ascii, chars_ascii}
 use Rattle.py_text.proofs.AsciiLemmas.{ascii_bytes, ascii_drop, ascii_take}
 
--- the code points from a place on, where a character stands there
+-- the code points from a place on, where a character begins there
 pub at_cursor : (text bs rest next : List ℕ) (place offset c : ℕ) → IsCursor text place offset → bs ≡ encode_utf8_all text → rest ≡ drop offset bs → IsUtf8 rest → rest ≡ encode_utf8 c ++ next → drop place text ≡ c ∷ chars next
 at_cursor text bs rest next place offset c w e r u h = sym w.after ∙ ap (λ (l : List ℕ). chars (drop offset l)) (sym e) ∙ sym (ap chars r) ∙ chars_past_char rest next c u h
 
@@ -38,7 +38,7 @@ cursor_on text bs rest next place offset c w e r u h =
       after = ap chars (drop_past_char (encode_utf8_all text) next offset c left) ∙ sym one ∙ drop-drop 1 place text;
     }
 
--- nothing stands at the end
+-- nothing is at the end
 pub past_end : (L : List ℕ) (n : ℕ) → length L ≤ n → slice_get L n ≡ None
 past_end [] n h = refl
 past_end (x ∷ xs) zero h = absurd (omega arith)

@@ -23,7 +23,7 @@ joined_pieces : (x p : List ℕ) (L : List ℕ) (n q : ℕ) (places : List ℕ) 
 joined_pieces x p L n q [] = refl
 joined_pieces x p L n q (a ∷ more) = refl
 
--- L from p on is what stands before a place, x, and the rest
+-- L from p on is what is before a place, x, and the rest
 round_place : (x L : List ℕ) (p a : ℕ) → OccursAt x L p (length L) a → slice_range L p a ++ (x ++ drop (a + length x) L) ≡ drop p L
 round_place x L p a s =
     let at : p + (a - p) ≡ a = omega (arith, s.from) in

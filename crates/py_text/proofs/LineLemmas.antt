@@ -65,7 +65,7 @@ first_case c (d ∷ ds) false h more =
     ∙ ap (λ l. (c ∷ (take_while (λ c. not (is_line_end c)) (d ∷ ds) ++ take (end_width l) l)) ∷ whole_lines (drop (end_width l) l)) (sym (skipped_on c (d ∷ ds) h))
     ∙ ap (λ f. (f ++ take (end_width (skip_while (λ c. not (is_line_end c)) (c ∷ d ∷ ds))) (skip_while (λ c. not (is_line_end c)) (c ∷ d ∷ ds))) ∷ whole_lines (drop (end_width (skip_while (λ c. not (is_line_end c)) (c ∷ d ∷ ds))) (skip_while (λ c. not (is_line_end c)) (c ∷ d ∷ ds)))) (sym (taken_on c (d ∷ ds) h))
 
--- the first line, and the lines behind it
+-- the first line, and the lines after it
 pub first_line_is : (L : List ℕ) → 0 < length L → whole_lines L ≡ (take_while (λ c. not (is_line_end c)) L ++ take (end_width (skip_while (λ c. not (is_line_end c)) L)) (skip_while (λ c. not (is_line_end c)) L)) ∷ whole_lines (drop (end_width (skip_while (λ c. not (is_line_end c)) L)) (skip_while (λ c. not (is_line_end c)) L))
 first_line_is [] h = absurd (omega arith)
 first_line_is (c ∷ cs) h = first_case c cs (is_line_end c) refl (first_line_is cs)

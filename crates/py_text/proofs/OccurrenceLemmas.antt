@@ -15,7 +15,7 @@ pub cuts_none : (k : ℕ) (x L : List ℕ) (b e : ℕ) → first_in x L b e ≡ 
 cuts_none zero x L b e h = refl
 cuts_none (suc k) x L b e h = ap (λ (o : Option ℕ). elim o as (λ _. List ℕ) [ None ↦ [] | Some a ↦ a ∷ occurrences k x L (a + max 1 (length x)) e ]) h
 
--- what is behind a place in a part is a part
+-- what is after a place in a part is a part
 pub inside_drop : (L W : List ℕ) (b e n : ℕ) → Inside L W b e → n ≤ length W → Inside L (drop n W) (b + n) e
 inside_drop L W b e n i h = record {
   before = i.before ++ take n W;
@@ -88,7 +88,7 @@ cut_shorter x rest front back some cut =
     let fits : cut.0 + length x ≤ length rest = (first_means x rest 0 (length rest) cut.0 cut.1).to in
     omega (arith, ap length cut.3, length-drop (cut.0 + length x) rest)
 
--- an empty text stands at each place
+-- an empty text occurs at each place
 pub empty_first : (L : List ℕ) (b e : ℕ) → b ≤ e → first_in [] L b e ≡ Some b
 empty_first L b e h = least_is (occurs_at [] L b e) (suc e) b (omega arith) (occurs_true [] L b e b (omega arith) (omega arith) (drop b L, refl)) (λ c k. too_early [] L b e c k)
 

@@ -1,4 +1,4 @@
--- Where a text stands in a text, in code points and in bytes.
+-- Where a text occurs in a text, in code points and in bytes.
 use Rattle.std.proofs.Common.{◌≡◌, ℕ, ◌+◌, ◌<◌, ◌≤◌, ◌&&◌, ◌⊎◌, inl, inr, Bool, true, false, nat_eq, nat_le, if◌then◌else◌, List, [], ◌∷◌, ◌++◌, length, take, drop, suc, zero, refl, ap, sym, ◌∙◌, arith, length-append, length-drop, subst, Some, None, le-leb, leb-true, IsCharBoundary, IsUtf8, chars, encode_utf8, encode_utf8_all}
 use Rattle.std.proofs.Math.Seq.{take-append_seam, drop-append_seam, drop-append-add}
 use Rattle.std.proofs.lemmas.List.{take-append-drop, length-take-le}
@@ -11,7 +11,7 @@ use Rattle.std.specs.Str.Pattern.{FindsText, RFindsText, HasTextAt, MatchBeginsA
 use Rattle.std.proofs.lemmas.Str.{length-encode, len_utf8_bounds, encodes-chars, chars-append, encodes-append, IsUtf8-take, IsUtf8-drop, IsCharBoundary-from_drop}
 use Rattle.py_text.specs.Occurrences.{occurs_at, least, greatest, first_in, last_in, IsAround}
 
--- x stands in L from a on
+-- x occurs in L at a
 abbrev pub Occurs : List ℕ → List ℕ → ℕ → Type 0
 Occurs x L a = (rest : List ℕ) × (drop a L ≡ x ++ rest)
 
@@ -118,7 +118,7 @@ grows (c ∷ cs) (suc a) (suc b) lt le = omega (arith, length-append (encode_utf
 within : (cs : List ℕ) (a : ℕ) → length (encode_utf8_all (take a cs)) ≤ length (encode_utf8_all cs)
 within cs a = omega (arith, ap length (encodes-append (take a cs) (drop a cs)), length-append (encode_utf8_all (take a cs)) (encode_utf8_all (drop a cs)), ap (λ l. length (encode_utf8_all l)) (take-append-drop a cs))
 
--- what stands among the code points stands among the bytes
+-- what occurs among the code points occurs among the bytes
 pub in_bytes : (n s : List ℕ) (b : ℕ) → IsUtf8 n → IsUtf8 s → Occurs (chars n) (chars s) b → (rest : List ℕ) × (drop (length (encode_utf8_all (take b (chars s)))) s ≡ n ++ rest)
 in_bytes n s b u v t =
     let whole : s ≡ encode_utf8_all (take b (chars s)) ++ (n ++ encode_utf8_all t.0) =
@@ -126,7 +126,7 @@ in_bytes n s b u v t =
     ∙ encodes-append (take b (chars s)) (chars n ++ t.0) ∙ ap (λ r. encode_utf8_all (take b (chars s)) ++ r) (encodes-append (chars n) t.0 ∙ ap (λ r. r ++ encode_utf8_all t.0) (encodes-chars n u)) in
     (encode_utf8_all t.0, ap (λ r. drop (length (encode_utf8_all (take b (chars s)))) r) whole ∙ drop-append_seam (encode_utf8_all (take b (chars s))) (n ++ encode_utf8_all t.0))
 
--- n stands in s at the byte i, which is the place a
+-- n occurs in s at the byte i, which is the place a
 pub record Seen (n s : List ℕ) (i a : ℕ) : Type 0 where
   pub stands : Occurs (chars n) (chars s) a
   pub inside : a ≤ length (chars s)

@@ -9,7 +9,7 @@ use Rattle.py_text.specs.Partitions.{partition, rpartition, parted_at}
 use Rattle.py_text.proofs.WindowLemmas.{Inside, first_inside, first_means, whole}
 use Rattle.py_text.proofs.OccurrenceLemmas.{cuts_some, cuts_none, inside_drop, max_one}
 
--- what stands from where a part begins
+-- what occurs from where a part begins
 drop_inside : (L W : List ℕ) (b e : ℕ) (i : Inside L W b e) → drop b L ≡ W ++ i.after
 drop_inside L W b e i = ap (drop b) i.parts ∙ drop_at i.before (W ++ i.after) b i.begins
 

@@ -100,7 +100,7 @@ walked_after s rest k w =
     let points : drop k (chars s) ≡ chars rest = rw (spelled s rest k w, ← w.count) (drop-append_seam (chars w.front) (chars rest)) in
     ap chars bytes ∙ sym points
 
--- a text with another behind it
+-- a text with another after it
 pub appended : (old more new : List ℕ) → IsUtf8 old → new ≡ old ++ more → chars new ≡ chars old ++ chars more
 appended old more new u e = ap chars e ∙ chars-append old more u
 
@@ -133,7 +133,7 @@ ascii_marked bs xs n e h l =
     let p : chars bs ≡ xs = ap chars e ∙ chars_ascii xs h in
     record { marked = sym (ap all_ascii p ∙ h); counted = l ∙ sym (ap length p) }
 
--- rest stands before the last k code points of s
+-- rest is before the last k code points of s
 pub record WalkedBack (s rest : List ℕ) (k : ℕ) : Type 0 where
   pub back : List ℕ
   pub parts : s ≡ rest ++ back

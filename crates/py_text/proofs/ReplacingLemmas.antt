@@ -1,4 +1,4 @@
--- Pieces glued together with a text behind each.
+-- Pieces joined, with a text after each.
 use Rattle.std.proofs.Common.{◌≡◌, ℕ, ◌+◌, ◌-◌, ◌<◌, ◌≤◌, List, [], ◌∷◌, ◌++◌, length, take, drop, slice_range, suc, zero, refl, ap, sym, ◌∙◌, arith, length-drop, append_assoc, append-nil, get_or, Some, None, slice_get, Result, Ok, Err, OnOk, le_of_lt}
 use Rattle.std.proofs.lemmas.List.{take-append-drop, drop-drop, take_more, length-take-le}
 use Rattle.py_text.specs.Occurrences.{first_in, occurrences, IsAround}
@@ -8,7 +8,7 @@ use Rattle.py_text.proofs.WindowLemmas.{first_outside}
 use Rattle.py_text.proofs.OccurrenceLemmas.{cuts_some, cuts_none, empty_first}
 use Rattle.py_text.proofs.PieceLemmas.{Cutting, cutting_none, cutting_more, cutting_stops, cutting_ends}
 
--- each piece with y behind it
+-- each piece with y after it
 abbrev pub glued : List ℕ → List (List ℕ) → List ℕ
 glued y [] = []
 glued y (p ∷ ps) = p ++ (y ++ glued y ps)
@@ -56,7 +56,7 @@ replacing_stops x y L rest before out new k left h p r = replaced_by y rest befo
 pub replacing_ends : (x y L rest before out new : List ℕ) (k left : ℕ) → left ≡ 0 → new ≡ out ++ rest → Replacing x y L rest before out k left → new ≡ before ++ replace k x y L
 replacing_ends x y L rest before out new k left h p r = replaced_by y rest before out new r.list (split k x L) p r.glue (cutting_ends x L rest r.list (split k x L) left h r.cutting)
 
--- y stands in out before each code point up to rest
+-- y is in out before each code point up to rest
 pub record Spreading (y L rest before out : List ℕ) (k left : ℕ) : Type 0 where
   pub list : List (List ℕ)
   pub from : ℕ
@@ -148,7 +148,7 @@ pub joined_on : (x : List ℕ) (ps : List (List ℕ)) (q : List ℕ) → 0 < len
 joined_on x [] q h = absurd (omega arith)
 joined_on x (p ∷ ps) q h = joined_more x p ps q
 
--- one item more is joined: the first, or one behind others
+-- one item more is joined: the first, or one after others
 pub first_item : (x out new q : List ℕ) (items : List (List ℕ)) (i : ℕ) → i ≡ 0 → i < length items → slice_get items i ≡ Some q → out ≡ join x (take i items) → new ≡ out ++ q → new ≡ join x (take (i + 1) items)
 first_item x out new q items i z l h o n =
     let none : out ≡ [] = o ∙ ap (λ k. join x (take k items)) z in

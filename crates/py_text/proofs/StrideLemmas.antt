@@ -40,7 +40,7 @@ stride_on k done (y ∷ ys) x whole h e g =
     ∙ ap (λ (l : List ℕ). done ++ l) (ap (λ z. z ∷ every k (drop k (y ∷ ys))) (sym same) ∙ sym (every_on k y ys h))
     ∙ g
 
--- what is left of a list from behind
+-- what is left of a list from its end
 pub drop-reverse : (k : ℕ) (L : List ℕ) → drop k (reverse L) ≡ reverse (take (length L - k) L)
 drop-reverse k L = elim (cases_lt (length L) k) [
   | inr h ↦
@@ -66,7 +66,7 @@ pub char_passed : (k n : ℕ) (done bs rest : List ℕ) (c : ℕ) (whole : List 
 char_passed k n done bs rest c whole h u e g =
     ap (λ (l : List ℕ). done ++ l) (sym (item_passed k n c (chars rest) h) ∙ ap (every_after k n) (sym (chars_past_char bs rest c u e))) ∙ g
 
--- a character from behind
+-- a character from the end
 pub front_utf8 : (bs rest : List ℕ) (c : ℕ) → IsScalar c → IsUtf8 bs → bs ≡ rest ++ encode_utf8 c → IsUtf8 rest
 front_utf8 bs rest c s u e =
     let part : take (length rest) bs ≡ rest = ap (take (length rest)) e ∙ take-append_seam rest (encode_utf8 c) in

@@ -66,7 +66,7 @@ found_front t q o s i j u f b =
 pub none_front : (t q : ℕ → Bool) → Opposite t q → (s : List ℕ) → IsUtf8 s → FindsBy t s None → Parts q (chars s) (chars s) []
 none_front t q o s u f = parts_none t q o (chars s) (none_of t s u f)
 
--- a code point of a kind, found from the right: it stands at i, and behind it k
+-- a code point of a kind, found from the right: it is at i, and after it k
 pub found_back : (t q : ℕ → Bool) → Opposite t q → (s : List ℕ) (i j k : ℕ) → IsUtf8 s → RFindsBy t s (Some (i, j)) → IsCharBoundary s i → IsCharBoundary s j → chars (take k s) ≡ chars (take i s) ++ take 1 (chars (drop i s)) → chars (drop k s) ≡ drop 1 (chars (drop i s)) → Parts q (reverse (chars s)) (reverse (chars (drop k s))) (reverse (chars (take k s)))
 found_back t q o s i j k u f b d front rest =
     let before : IsUtf8 (take i s) = IsUtf8-take s i u b in

@@ -14,7 +14,7 @@ skip_twice q (c ∷ cs) = skip_case q c cs (q c) refl (skip_twice q cs)
 rest_piece : List ℕ → List (List ℕ)
 rest_piece M = elim M [ [] ↦ [] | c ∷ cs ↦ (c ∷ cs) ∷ [] ]
 
--- blanks in front do not count
+-- whitespace before it does not count
 pub words_skip : (k : ℕ) (L : List ℕ) → split_whitespace k (skip_while is_ascii_whitespace L) ≡ split_whitespace k L
 words_skip zero L = ap (λ (M : List ℕ). elim M as (λ _. List (List ℕ)) [ [] ↦ [] | c ∷ cs ↦ (c ∷ cs) ∷ [] ]) (skip_twice is_ascii_whitespace L)
 words_skip (suc k) L = ap (λ (M : List ℕ). elim M as (λ _. List (List ℕ)) [ [] ↦ [] | c ∷ cs ↦ until_whitespace (c ∷ cs) ∷ split_whitespace k (from_whitespace (c ∷ cs)) ]) (skip_twice is_ascii_whitespace L)

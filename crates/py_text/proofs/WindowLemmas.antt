@@ -98,7 +98,7 @@ first_inside x L W b e i = ap (λ n. first_in x L n e) (sym (add-zero b)) ∙ fi
 pub last_inside : (x L W : List ℕ) (b e : ℕ) → Inside L W b e → last_in x L b e ≡ option_map (λ a. b + a) (last_in x W 0 (length W))
 last_inside x L W b e i = ap (λ n. last_in x L n e) (sym (add-zero b)) ∙ last_shift x L W b e 0 i
 
--- where the part begins past its end, nothing stands in it
+-- where the part begins past its end, nothing occurs in it
 pub first_outside : (x L : List ℕ) (b e : ℕ) → e < b → first_in x L b e ≡ None
 first_outside x L b e h = least_none (occurs_at x L b e) (suc e) (λ c k. too_early x L b e c (omega arith))
 

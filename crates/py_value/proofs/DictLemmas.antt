@@ -9,7 +9,7 @@ both true true h = (refl, refl)
 both true false h = absurd (cc)
 both false b h = absurd (cc)
 
--- one entry in front, by the test whether it has the key
+-- one entry before others, by the test whether it has the key
 apart_case : (b : Bool) (j i k : DictKey) (v w : Plain) (es : Entries) → apart j es ≡ true → apart j (put k v es) ≡ true → not (same_key j i) ≡ true → apart j (cond b (entry i v es) (entry i w (put k v es))) ≡ true
 apart_case true j i k v w es old new here = rw here old
 apart_case false j i k v w es old new here = rw here new
