@@ -1,5 +1,5 @@
 -- Laws of integers.
-use Rattle.std.specs.Prelude.{◌≡◌, ◌≢◌, ◌≤◌, ◌↔◌, ◌^◌, ℕ, ℤ, pos, Bool, true, false, All, List, [], ◌∷◌, Some, Ok}
+use Rattle.std.specs.Prelude.{◌≡◌, ◌≢◌, ◌≤◌, ◌↔◌, ◌^◌, ℕ, ℤ, pos, Bool, IsTrue, true, false, All, List, [], ◌∷◌, Some, Ok}
 use Rattle.std.specs.List.{concat}
 use Rattle.std.specs.Str.Parse.{AllDigits, digits_value}
 use Rattle.std.specs.Fmt.{signed_decimal}
@@ -38,8 +38,9 @@ abbrev pub ReprReadsBack : Type 0
 ReprReadsBack = (z : ℤ) → wide z ≡ false →
     (int_of 10 (signed_decimal z) ≡ Ok z) × (int_of 0 (signed_decimal z) ≡ Ok z)
 
-abbrev pub EqualNumbersHashAlike : Type 0
-EqualNumbersHashAlike = (a b : ℤ) → a ≡ b → int_hash a ≡ int_hash b
+-- integers that an equality takes for equal have one hash
+abbrev pub HaveOneHash : (ℤ → ℤ → Bool) → Type 0
+HaveOneHash eq = (a b : ℤ) → IsTrue (eq a b) → int_hash a ≡ int_hash b
 
 -- two integers with the same bits are one
 abbrev pub NumbersAreTheirBits : Type 0

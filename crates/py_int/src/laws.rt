@@ -2,10 +2,13 @@
 
 ghost use Rattle.std.specs.Prelude.{◌≡◌, ◌↔◌, ℤ, ◌<ℤ◌, IsTrue, Some};
 ghost use Rattle.std.specs.Ordering.{int_cmp, partial_lt};
-ghost use Rattle.py_int.specs.Laws.{BytesSpellTheNumber, DigitsAreRuns, DivisionIsOnePair, EqualNumbersHashAlike, NoInverseIsCommonDivisor, NumbersAreTheirBits, ReprReadsBack, RoundingIsNearest};
+ghost use Rattle.py_text.specs.Laws.{HashAlike};
+ghost use Rattle.py_int.specs.Laws.{BytesSpellTheNumber, DigitsAreRuns, DivisionIsOnePair, HaveOneHash, NoInverseIsCommonDivisor, NumbersAreTheirBits, ReprReadsBack, RoundingIsNearest};
 
+use crate::boolean::PyBool;
 use crate::number::PyInt;
 use std::cmp::Ordering;
+use std::hash::Hash;
 
 /// The floor of a quotient and what it leaves are the one pair that divides: `divmod` answers it.
 pub fn division_is_one_pair()
@@ -39,9 +42,19 @@ pub fn bytes_spell_the_number()
     ensures { BytesSpellTheNumber }
 {}
 
-/// Equal integers hash alike.
+/// Integers that are equal by `==` make the same writes to a hasher.
 pub fn equal_numbers_hash_alike()
-    ensures { EqualNumbersHashAlike }
+    ensures { HashAlike ⟦<PyInt as PartialEq>⟧.eq ⟦<PyInt as Hash>⟧.hash_input }
+{}
+
+/// Bools that are equal by `==` make the same writes to a hasher.
+pub fn equal_bools_hash_alike()
+    ensures { HashAlike ⟦<PyBool as PartialEq>⟧.eq ⟦<PyBool as Hash>⟧.hash_input }
+{}
+
+/// Python's `hash` is the same of integers that are equal by `==`.
+pub fn equal_numbers_have_one_hash()
+    ensures { HaveOneHash ⟦<PyInt as PartialEq>⟧.eq }
 {}
 
 /// The order of two, which sorts and maps use, is the order of the integers that they hold.
