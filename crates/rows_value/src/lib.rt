@@ -1,5 +1,11 @@
-//! Tests of py_value: lists, dictionaries, and copies of values.
+//! Tests of py_value: values, how they are copied and dropped, hosts, and look-ups.
 #![tactic(auto)]
 
+#[cfg(test)]
+mod dropped;
+#[cfg(test)]
+mod hosts;
+#[cfg(test)]
+mod looked_up;
 #[cfg(test)]
 mod values;
