@@ -1,6 +1,7 @@
 pub mod LacksLemmas
 pub mod StreamLemmas
-pub mod TextLemmas
+pub mod PartLemmas
+pub mod FillLemmas
 pub mod WalkLemmas
 pub mod Utf8Lemmas
 pub mod DecimalLemmas

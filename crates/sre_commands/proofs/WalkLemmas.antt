@@ -1,5 +1,5 @@
 -- What is copied and what is still to copy make the whole result.
-use Rattle.std.proofs.Common.{◌≡◌, ◌⊎◌, inl, inr, ℕ, zero, suc, ◌+◌, ◌*◌, ◌≤◌, ◌<◌, Bool, true, false, cond, leb, ltb, eqb, min, List, [], ◌∷◌, ◌++◌, length, take, drop, Option, Some, None, refl, sym, ap, subst, ◌∙◌, append_assoc, arith}
+use Rattle.std.proofs.Common.{◌≡◌, ◌⊎◌, inl, inr, ℕ, zero, suc, ◌+◌, ◌*◌, ◌≤◌, ◌<◌, Bool, true, false, cond, leb, ltb, eqb, min, List, [], ◌∷◌, ◌++◌, length, take, drop, Option, Some, None, refl, sym, ap, subst, ◌∙◌, encode_utf8_all, arith}
 use Rattle.std.specs.Prelude.{slice_range}
 use Rattle.std.proofs.lemmas.List.{take_all}
 use Rattle.std.proofs.lemmas.Bool.{eqb-true, leb-true, leb-false, ltb-true}
@@ -9,12 +9,13 @@ use Rattle.sre_match.specs.Search.{Search, NextStart, start_of, start_after}
 use Rattle.sre_commands.specs.Commands.Sub.Filling.{Replacement, fill, result_from, result_of}
 use Rattle.sre_match.proofs.Spans.{Follows, next_follows, turns, turns_fall, wanted, wanted_first, wanted_none, wanted_full, wanted_some}
 use Rattle.sre_commands.specs.Commands.Sub.Answer.{is_reached, up_to}
+use Rattle.sre_commands.proofs.PartLemmas.{three_parts}
 
--- so much of a result is copied, up to the place where the walk is
-pub record Copied (list : Replacement) (s : List ℕ) (t : PlainTree) (limit count : ℕ) (next_start : NextStart) (place : ℕ) (units : List ℕ) : Type 0 where
+-- the UTF-8 of so much of a result is copied, up to the place of the walk
+pub record Copied (list : Replacement) (s : List ℕ) (t : PlainTree) (limit count : ℕ) (next_start : NextStart) (place : ℕ) (bytes : List ℕ) : Type 0 where
   pub place_is : place ≡ next_start.place
   pub within : place ≤ length s
-  pub whole : units ++ result_from place s (wanted limit count t s next_start.place next_start.advance) list ≡ result_of s (spans t s 0 limit) list
+  pub whole : bytes ++ encode_utf8_all (result_from place s (wanted limit count t s next_start.place next_start.advance) list) ≡ encode_utf8_all (result_of s (spans t s 0 limit) list)
   pub number : count + length (wanted limit count t s next_start.place next_start.advance) ≡ length (spans t s 0 limit)
   pub room : count + turns s next_start.place next_start.advance ≤ 2 * length s + 1
 
@@ -24,7 +25,7 @@ copied_start list s t limit next_start is =
     let made : Copied list s t limit 0 start 0 [] = record {
       place_is = refl;
       within = omega arith;
-      whole = ap (λ (xs : List Span). result_from 0 s xs list) (wanted_first limit t s);
+      whole = ap (λ (xs : List Span). encode_utf8_all (result_from 0 s xs list)) (wanted_first limit t s);
       number = ap (λ (xs : List Span). 0 + length xs) (wanted_first limit t s) ∙ omega arith;
       room = omega arith;
     } in
@@ -82,13 +83,13 @@ follows_is list s t limit count next_start place units x k e =
     subst (λ (q : ℕ). Follows s q next_start.advance x) (sym k.place_is) f
 
 -- one gap and one filled template more
-pub copied_more : (list : Replacement) (s : List ℕ) (t : PlainTree) (limit count : ℕ) (next_start after : NextStart) (place : ℕ) (was mid new : List ℕ) (x : Span)
+pub copied_more : (list : Replacement) (s : List ℕ) (t : PlainTree) (limit count : ℕ) (next_start after : NextStart) (place : ℕ) (was new : List ℕ) (x : Span)
     → Copied list s t limit count next_start place was
     → Some x ≡ up_to limit count (next_span t s next_start.place (any_end next_start.advance))
     → after ≡ start_after (up_to limit count (next_span t s next_start.place (any_end next_start.advance))) next_start
-    → mid ≡ was ++ slice_range s place x.start → new ≡ mid ++ fill list s x
+    → new ≡ (was ++ encode_utf8_all (slice_range s place x.start)) ++ encode_utf8_all (fill list s x)
     → Copied list s t limit (count + 1) after x.stop new
-copied_more list s t limit count next_start after place was mid new x k e moved m n =
+copied_more list s t limit count next_start after place was new x k e moved n =
     let next = next_is s t limit count next_start x e in
     let q = next_start.place in
     let le : q ≤ length s = omega (arith, k.place_is, k.within) in
@@ -96,12 +97,12 @@ copied_more list s t limit count next_start after place was mid new x k e moved 
     let falls = turns_fall s q next_start.advance x f in
     let one : wanted limit count t s q next_start.advance ≡ x ∷ wanted limit (count + 1) t s x.stop (is_empty_span x) = wanted_some limit count t s q next_start.advance x le next.short next.next in
     let rest = result_from x.stop s (wanted limit (count + 1) t s x.stop (is_empty_span x)) list in
-    let before : was ++ (slice_range s place x.start ++ (fill list s x ++ rest)) ≡ result_of s (spans t s 0 limit) list = (rw one at k.whole) in
+    let before : was ++ encode_utf8_all (slice_range s place x.start ++ (fill list s x ++ rest)) ≡ encode_utf8_all (result_of s (spans t s 0 limit) list) = (rw one at k.whole) in
     let there : NextStart = record { place = x.stop; advance = is_empty_span x } in
     let made : Copied list s t limit (count + 1) there x.stop new = record {
       place_is = refl;
       within = f.to;
-      whole = rw (n, m) (append_assoc (was ++ slice_range s place x.start) (fill list s x) rest ∙ append_assoc was (slice_range s place x.start) (fill list s x ++ rest) ∙ before);
+      whole = three_parts was (slice_range s place x.start) (fill list s x) rest new n ∙ before;
       number = let long = ap length one in omega (arith, long, k.number);
       room = omega (arith, falls, k.room);
     } in
@@ -111,7 +112,7 @@ copied_more list s t limit count next_start after place was mid new x k e moved 
 pub copied_end : (list : Replacement) (s : List ℕ) (t : PlainTree) (limit count : ℕ) (next_start : NextStart) (place : ℕ) (was new : List ℕ)
     → Copied list s t limit count next_start place was
     → None ≡ up_to limit count (next_span t s next_start.place (any_end next_start.advance))
-    → new ≡ was ++ drop place s → (new ≡ result_of s (spans t s 0 limit) list) × (count ≡ length (spans t s 0 limit))
+    → new ≡ was ++ encode_utf8_all (drop place s) → (new ≡ encode_utf8_all (result_of s (spans t s 0 limit) list)) × (count ≡ length (spans t s 0 limit))
 copied_end list s t limit count next_start place was new k e n =
     let none = none_is s t limit count next_start e in
     (n ∙ (rw none at k.whole), (let long = ap length none in omega (arith, long, k.number)))
@@ -148,3 +149,11 @@ standing_start r next_start units n e is = is ∙ ap (λ (p : ℕ). record { pla
 
 pub subject_start : (units s : List ℕ) (n : ℕ) → units ≡ s → n ≡ length s → take n units ≡ s
 subject_start units s n e is = rw (e, is) (take_all (length s) s (omega arith))
+
+-- a span that is found follows the place up to which all is copied
+pub follows_here : (list : Replacement) (s : List ℕ) (t : PlainTree) (limit count : ℕ) (next_start : NextStart) (place : ℕ) (was : List ℕ) (x : Span) (u : PlainTree) (v : List ℕ)
+    → u ≡ t → v ≡ s → Copied list s t limit count next_start place was
+    → Some x ≡ up_to limit count (next_span u v next_start.place next_start.advance false)
+    → Follows s place next_start.advance x
+follows_here list s t limit count next_start place was x u v et es k e =
+    follows_is list s t limit count next_start place was x k (over_same u t v s limit count next_start.place next_start.advance (Some x) et es e)

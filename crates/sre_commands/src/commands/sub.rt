@@ -3,6 +3,7 @@
 pub mod answer;
 mod filling;
 mod line;
+mod parts;
 mod reader;
 pub mod request;
 pub mod template;

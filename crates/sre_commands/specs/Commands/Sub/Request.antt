@@ -46,12 +46,12 @@ text_of r =
 -- the request that a value in memory is
 abbrev pub request_of : Substitution → Request
 request_of a = record {
-  pattern = a.pattern.items;
+  pattern = a.pattern;
   words = a.words.items;
   groups = a.groups;
   limit = a.limit;
   template = replacement_of a.template;
-  subject = a.subject.items;
+  subject = a.subject;
 }
 
 -- the lines of the code: the pattern, the code words, and how many groups it has
@@ -61,4 +61,4 @@ pub record PlainCode : Type 0 where
   pub groups : ℕ
 
 abbrev pub code_of : Code → PlainCode
-code_of c = record { pattern = c.pattern.items; words = c.words.items; groups = c.groups }
+code_of c = record { pattern = c.pattern; words = c.words.items; groups = c.groups }

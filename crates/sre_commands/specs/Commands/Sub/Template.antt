@@ -31,10 +31,10 @@ template_tokens template = codes " " ++ (token template.head ++ pair_tokens temp
 
 -- the template that a value in memory is
 abbrev pub pair_of : Pair → ℕ × List ℕ
-pair_of p = (p.group, p.literal.items)
+pair_of p = (p.group, p.literal)
 
 abbrev pub replacement_of : Template → Replacement
-replacement_of t = record { head = t.head.items; pairs = map pair_of t.pairs.items }
+replacement_of t = record { head = t.head; pairs = map pair_of t.pairs.items }
 
 -- a pair: the number of a group or 0, a space, and a literal
 abbrev pub read_pair : ℕ → List ℕ → Read (ℕ × List ℕ)

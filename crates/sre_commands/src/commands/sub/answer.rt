@@ -1,20 +1,23 @@
 //! The answer to a request.
 
-ghost use Rattle.std.specs.Prelude.{◌≡◌, ◌++◌, ◌+◌, List, ℕ, false, true, length, IfOk, OnOk, string_bytes, encode_utf8_all};
-ghost use Rattle.std.specs.Str.{all_scalars};
+ghost use Rattle.std.specs.Prelude.{◌≡◌, ◌++◌, ◌+◌, ◌≤◌, List, ℕ, false, true, length, slice_range, IfOk, OnOk, string_bytes, encode_utf8_all};
 ghost use Rattle.sre_match.specs.Matches.{if_found, spans};
 ghost use Rattle.sre_match.specs.Search.{start_after, walk_next};
-ghost use Rattle.sre_commands.specs.Commands.Sub.Filling.{result_of};
+ghost use Rattle.sre_commands.specs.Commands.Sub.Filling.{fill, result_of};
 ghost use Rattle.sre_commands.specs.Commands.Sub.Request.{IsRequest, request_of};
 ghost use Rattle.sre_commands.specs.Commands.Sub.Template.{replacement_of};
 ghost use Rattle.sre_commands.specs.Commands.Sub.Answer.{answer_of, spans_of_request, is_reached, up_to};
 
 use super::filling::fill;
 use super::line::answer_line;
+use super::parts::{TextParts, moved_to};
 use super::request::Substitution;
+use super::template::Template;
 use py_base::Steps;
 use sre_code::Checked;
-use sre_match::{MatchError, PlaceView, Request, SearchIter, StrDrive};
+use sre_match::{
+    ByteView, MatchError, Request, SearchIter, State, StrDrive, StringCursor, TextView,
+};
 use std::alloc::{AllocError, Global};
 use std::sync::ledger::Ledger;
 
@@ -45,48 +48,89 @@ fn has_next<'c, S: StrDrive, L: Ledger>(
     walk.next(steps)
 }
 
-// The subject with its spans replaced, and how many there were.
-fn replaced<L: Ledger>(
+// Appends the gap before a span and what replaces it, and answers the cursor at its end.
+fn append_span<S: TextParts>(
+    bytes: &mut Vec<u8>,
+    template: &Template,
+    view: &S,
+    from: &StringCursor,
+    span: &State,
+) -> Result<StringCursor, AllocError>
+    requires spells { S.spells (S.units view.now) }
+    requires fits { S.fits (S.units view.now) from.now ≡ true }
+    requires follows { from.now.place ≤ span.now.start }
+    requires order { span.now.start ≤ span.now.stop }
+    requires within { span.now.stop ≤ length (S.units view.now) }
+    ensures fits { IfOk result (λ to. S.fits (S.units view.now) to ≡ true) }
+    ensures place { IfOk result (λ to. to.place ≡ span.now.stop) }
+    ensures bytes { let gap = slice_range (S.units view.now) from.now.place span.now.start in
+        let filled = fill (replacement_of template.now) (S.units view.now) span.now in
+        let before = bytes.old.items ++ encode_utf8_all gap in
+        OnOk result (bytes.new.items ≡ before ++ encode_utf8_all filled) }
+{
+    let start = moved_to(view, from, span.start());
+    view.append(bytes, from, &start)?;
+    fill(bytes, template, view, &start, span)?;
+    Ok(moved_to(view, &start, span.position()))
+}
+
+// The UTF-8 of the subject with its spans replaced, and how many there were.
+fn replaced<S: TextParts, L: Ledger>(
+    alloc: Global,
+    asked: &Substitution,
+    view: S,
+    code: &Checked,
+    steps: &mut Steps<L>,
+) -> Result<(Vec<u8>, usize), MatchError>
+    requires counter { S.counts L.name }
+    requires units { S.units view ≡ asked.now.subject }
+    requires spells { S.spells (S.units view) }
+    ensures text { let spans = spans_of_request (request_of asked.now) code.now.tree in
+        let text = result_of asked.now.subject spans (replacement_of asked.now.template) in
+        IfOk result (λ x. x.0.items ≡ encode_utf8_all text) }
+    ensures count { let spans = spans_of_request (request_of asked.now) code.now.tree in
+        IfOk result (λ x. x.1 ≡ length spans) }
+{
+    let end = view.count();
+    let request = Request::new(view, 0, end, code, false);
+    let mut walk = SearchIter::new(alloc, request);
+    let mut bytes = Vec::new(alloc);
+    let mut from = walk.view().create_cursor(0);
+    let mut count = 0usize;
+    'spans: while has_next(&mut walk, asked.limit, count, steps)? {
+        from = append_span(
+            &mut bytes,
+            &asked.template,
+            walk.view(),
+            &from,
+            walk.state(),
+        )?;
+        count += 1;
+    }
+    let last = walk.view().create_cursor(end);
+    walk.view().append(&mut bytes, &from, &last)?;
+    Ok((bytes, count))
+}
+
+// The same, where the subject is: over its bytes if it is ASCII.
+fn replaced_in_place<L: Ledger>(
     alloc: Global,
     asked: &Substitution,
     code: &Checked,
     steps: &mut Steps<L>,
-) -> Result<(Vec<u32>, usize), MatchError>
-    ensures units { let spans = spans_of_request (request_of asked.now) code.now.tree in
-        IfOk result (λ x. x.0.items
-        ≡ result_of asked.now.subject.items spans (replacement_of asked.now.template)) }
+) -> Result<(Vec<u8>, usize), MatchError>
+    ensures text { let spans = spans_of_request (request_of asked.now) code.now.tree in
+        let text = result_of asked.now.subject spans (replacement_of asked.now.template) in
+        IfOk result (λ x. x.0.items ≡ encode_utf8_all text) }
     ensures count { let spans = spans_of_request (request_of asked.now) code.now.tree in
         IfOk result (λ x. x.1 ≡ length spans) }
 {
-    let subject = asked.subject.as_slice();
-    let request = Request::new(PlaceView::new(subject), 0, subject.len(), code, false);
-    let mut walk = SearchIter::new(alloc, request);
-    let mut units = Vec::new(alloc);
-    let mut place = 0;
-    let mut count = 0usize;
-    while has_next(&mut walk, asked.limit, count, steps)? {
-        units.extend_from_slice(&subject[place..walk.state().start()])?;
-        fill(&mut units, &asked.template, subject, walk.state())?;
-        place = walk.state().position();
-        count += 1;
+    let subject = &asked.subject;
+    if subject.is_ascii() {
+        let view = ByteView::new(subject.as_str().as_bytes());
+        return replaced(alloc, asked, view, code, steps);
     }
-    units.extend_from_slice(&subject[place..])?;
-    Ok((units, count))
-}
-
-// The text of these code points.
-fn string_of(alloc: Global, units: &[u32]) -> Result<String, AllocError>
-    requires { all_scalars units.now ≡ true }
-    ensures { IfOk result (λ text. string_bytes text ≡ encode_utf8_all units.now) }
-{
-    let mut text = String::with_capacity(alloc, units.len())?;
-    for unit in units {
-        let Some(character) = char::from_u32(*unit) else {
-            unreachable!()
-        };
-        text.push(character)?;
-    }
-    Ok(text)
+    replaced(alloc, asked, TextView::new(subject), code, steps)
 }
 
 /// The answer's line.
@@ -100,7 +144,6 @@ pub fn answer<L: Ledger>(
     ensures { IfOk result (λ line.
         line.items ≡ answer_of (request_of asked.now) code.now.tree) }
 {
-    let (units, count) = replaced(alloc, asked, code, steps)?;
-    let text = string_of(alloc, &units)?;
+    let (text, count) = replaced_in_place(alloc, asked, code, steps)?;
     Ok(answer_line(alloc, &text, count)?)
 }

@@ -1,32 +1,37 @@
 //! A replacement template, filled from a span's groups.
 
-ghost use Rattle.std.specs.Prelude.{◌≡◌, ◌++◌, OnOk};
-ghost use Rattle.sre_commands.specs.Commands.Sub.Filling.{fill, group_span, text_between};
+ghost use Rattle.std.specs.Prelude.{◌≡◌, ◌++◌, true, OnOk, encode_utf8_all};
+ghost use Rattle.sre_commands.specs.Commands.Sub.Filling.{fill, group_span};
 ghost use Rattle.sre_commands.specs.Commands.Sub.Template.{replacement_of};
 
+use super::parts::{TextParts, append_between};
 use super::template::Template;
-use sre_match::State;
+use sre_match::{State, StringCursor};
 use std::alloc::AllocError;
 
-/// Appends the template with each pair's group read from the subject.
-pub fn fill(
-    units: &mut Vec<u32>,
+/// Appends the UTF-8 of the template with each pair's group read from the subject, where a cursor
+/// is near.
+pub(crate) fn fill<S: TextParts>(
+    bytes: &mut Vec<u8>,
     template: &Template,
-    subject: &[u32],
+    view: &S,
+    near: &StringCursor,
     state: &State,
 ) -> Result<(), AllocError>
-    ensures { let filled = fill (replacement_of template.now) subject.now state.now in
-        OnOk result (units.new.items ≡ units.old.items ++ filled) }
+    requires spells { S.spells (S.units view.now) }
+    requires fits { S.fits (S.units view.now) near.now ≡ true }
+    ensures { let filled = fill (replacement_of template.now) (S.units view.now) state.now in
+        OnOk result (bytes.new.items ≡ bytes.old.items ++ encode_utf8_all filled) }
 {
-    units.extend_from_slice(&template.head)?;
+    bytes.extend_from_slice(template.head.as_str().as_bytes())?;
     for pair in &template.pairs {
-        units.extend_from_slice(text_between(subject, group_span(state, pair.group)))?;
-        units.extend_from_slice(&pair.literal)?;
+        append_between(bytes, view, near, group_span(state, pair.group))?;
+        bytes.extend_from_slice(pair.literal.as_str().as_bytes())?;
     }
     Ok(())
 }
 
-// Where a group lies, of which group 0 is the whole span.
+// Where a group is, of which group 0 is the whole span.
 fn group_span(state: &State, group: usize) -> Option<(usize, usize)>
     ensures { result ≡ group_span state.now group }
 {
@@ -34,18 +39,4 @@ fn group_span(state: &State, group: usize) -> Option<(usize, usize)>
         return Some((state.start(), state.position()));
     }
     state.marks().get(group)
-}
-
-// The units between two places, or none.
-fn text_between(subject: &[u32], span: Option<(usize, usize)>) -> &[u32]
-    ensures { result.now ≡ text_between subject.now span }
-{
-    let Some((start, stop)) = span else {
-        return &subject[..0];
-    };
-    let stop = stop.min(subject.len());
-    if stop <= start {
-        return &subject[..0];
-    }
-    &subject[start..stop]
 }

@@ -9,8 +9,8 @@ use std::alloc::{AllocError, Global};
 // How many bytes a line has beside the digits at most: `t`, a space, 20 digits and a line feed.
 const OTHER_BYTES: usize = 23;
 
-/// The line of a text and how many spans were replaced in it. Room for it is reserved once.
-pub fn answer_line(alloc: Global, text: &str, count: usize) -> Result<Vec<u8>, AllocError>
+/// The line of the UTF-8 of a text and how many spans were replaced in it. Room is reserved once.
+pub fn answer_line(alloc: Global, text: &[u8], count: usize) -> Result<Vec<u8>, AllocError>
     ensures { IfOk result (λ line. line.items ≡ line_of text.now count) }
 {
     let end = format!(in alloc; " {count}\n")?;
@@ -19,7 +19,7 @@ pub fn answer_line(alloc: Global, text: &str, count: usize) -> Result<Vec<u8>, A
         text.len().saturating_mul(2).saturating_add(OTHER_BYTES),
     )?;
     line.push(b't')?;
-    append_digits(&mut line, text.as_bytes())?;
+    append_digits(&mut line, text)?;
     line.extend_from_slice(end.as_bytes())?;
     Ok(line)
 }

@@ -16,11 +16,12 @@ use crate::error::ParseError;
 use crate::tokens::number::{read_number, read_words};
 use crate::tokens::reader::{Read, read_past};
 use crate::tokens::text::read_text;
+use py_text::PyStr;
 use std::alloc::Global;
 
-fn read_text_line<'b>(alloc: Global, bytes: &'b [u8], name: &[u8]) -> Read<'b, Vec<u32>>
+fn read_text_line<'b>(alloc: Global, bytes: &'b [u8], name: &[u8]) -> Read<'b, PyStr>
     ensures { Meets (spec.read_line name.now texts.read_text bytes.now)
-        (read_as (λ text. text.items) result) }
+        (read_of result) }
 {
     let (_, rest) = read_past(bytes, name)?;
     let (text, rest) = read_text(alloc, rest)?;
@@ -60,7 +61,7 @@ fn read_template_line(alloc: Global, groups: usize, bytes: &[u8]) -> Read<Templa
 /// A pattern, the code words that it was compiled to, and how many groups it has.
 #[derive(Drop)]
 pub struct Code {
-    pub pattern: Vec<u32>,
+    pub pattern: PyStr,
     pub words: Vec<u32>,
     pub groups: usize,
 }

@@ -6,18 +6,18 @@ ghost use Rattle.sre_commands.specs.Commands.Sub.Request.{Request, IsRequest, te
 use super::reader::read_request;
 use super::template::Template;
 use crate::error::ParseError;
+use py_text::PyStr;
 use std::alloc::Global;
 
 /// A code, the subject that is searched for it, and the template that is filled for each span.
-/// Texts are their code points.
 #[derive(Debug, Drop)]
 pub struct Substitution {
-    pub pattern: Vec<u32>,
+    pub pattern: PyStr,
     pub words: Vec<u32>,
     pub groups: usize,
     pub limit: usize,
     pub template: Template,
-    pub subject: Vec<u32>,
+    pub subject: PyStr,
 }
 
 /// The request whose text the bytes are, all of the bytes.

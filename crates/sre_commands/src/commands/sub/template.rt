@@ -10,20 +10,20 @@ use crate::error::ParseError;
 use crate::tokens::number::read_group;
 use crate::tokens::reader::{Read, after_next, is_next, read_past};
 use crate::tokens::text::read_text;
+use py_text::PyStr;
 use std::alloc::Global;
 
 /// The number of a group, or 0 for the whole span, and the literal after it.
 #[derive(Debug, Drop)]
 pub struct Pair {
     pub group: usize,
-    pub literal: Vec<u32>,
+    pub literal: PyStr,
 }
 
-/// A replacement template: a literal, and then pairs of a group and a literal. Literals are their
-/// code points.
+/// A replacement template: a literal, and then pairs of a group and a literal.
 #[derive(Debug, Drop)]
 pub struct Template {
-    pub head: Vec<u32>,
+    pub head: PyStr,
     pub pairs: Vec<Pair>,
 }
 

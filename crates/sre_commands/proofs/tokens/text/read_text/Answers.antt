@@ -9,4 +9,4 @@ returns-in_err-text c =
     rw (p.1, p.2) (no_text c.args.bytes.now _ _ c.in_err-text.field-0.0 c.read_token.ensures (λ e. c.in_err-text.ensures.no_request (ap Err e)))
 
 pub returns : goal.returns
-returns c = text_read c.args.bytes.now _ _ c.in_ok-text.text.items c.read_token.ensures c.in_ok-text.ensures.scalars c.in_ok-text.ensures.found
+returns c = text_read c.args.bytes.now _ _ c.in_ok-text.text c.read_token.ensures c.in_ok-text.ensures.scalars c.in_ok-text.ensures.found

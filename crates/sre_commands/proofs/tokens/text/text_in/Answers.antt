@@ -1,5 +1,5 @@
 use Rattle.std.proofs.Common.{◌≡◌, ℕ, List, [], ◌∷◌, ap, sym, ◌∙◌, encode_utf8_all, string_bytes}
-use Rattle.std.specs.Str.{IsUtf8, chars}
+use Rattle.std.specs.Str.{IsUtf8}
 use Rattle.std.proofs.lemmas.Bool.Decides.{Decides-eqb}
 use Rattle.std.proofs.lemmas.Slice.Eq.{strip_prefix_is}
 use Rattle.std.proofs.lemmas.Str.{encodes-chars, scalars-chars, IsUtf8-string_bytes}
@@ -34,11 +34,11 @@ returns-clause-found c =
     let h = strip_prefix_is Decides-eqb c.args.bytes.now (116 ∷ []) c.strip_prefix.result c.strip_prefix.ensures.cases in
     let some : c.args.bytes.now ≡ 116 ∷ c.in-Some.digits.now = rw c.in-Some.is at h in
     let text : string_bytes c.in-Ok.text ≡ c.in-Some-2.encoded.items = cc (c.in-Ok.ensures.ok) in
-    let points : encode_utf8_all c.in_ok-code_points.field-0.items ≡ c.in-Some-2.encoded.items =
-    ap encode_utf8_all (c.in_ok-code_points.ensures ∙ ap chars c.deref.ensures) ∙ encodes-chars (string_bytes c.in-Ok.text) (IsUtf8-string_bytes c.in-Ok.text) ∙ text in
+    let points : encode_utf8_all c.from.result ≡ c.in-Some-2.encoded.items =
+    ap encode_utf8_all c.from.ensures ∙ encodes-chars (string_bytes c.in-Ok.text) (IsUtf8-string_bytes c.in-Ok.text) ∙ text in
     let found : c.in-Some.digits.now ≡ encode_lower c.in-Some-2.encoded.items = rw c.in-Some-2.is at c.in_ok-encoded.ensures.found in
     some ∙ ap (λ (l : List ℕ). 116 ∷ l) (found ∙ ap encode_lower (sym points))
 
 pub returns-clause-scalars : goal.returns-clause-scalars
 returns-clause-scalars c =
-    rw (c.in_ok-code_points.ensures, c.deref.ensures) (scalars-chars (string_bytes c.in-Ok.text) (IsUtf8-string_bytes c.in-Ok.text))
+    rw c.from.ensures (scalars-chars (string_bytes c.in-Ok.text) (IsUtf8-string_bytes c.in-Ok.text))
