@@ -153,7 +153,7 @@ subject_start units s n e is = rw (e, is) (take_all (length s) s (omega arith))
 -- a span that is found follows the place up to which all is copied
 pub follows_here : (list : Replacement) (s : List ℕ) (t : PlainTree) (limit count : ℕ) (next_start : NextStart) (place : ℕ) (was : List ℕ) (x : Span) (u : PlainTree) (v : List ℕ)
     → u ≡ t → v ≡ s → Copied list s t limit count next_start place was
-    → Some x ≡ up_to limit count (next_span u v next_start.place next_start.advance false)
+    → Some x ≡ up_to limit count (next_span u v next_start.place (any_end next_start.advance))
     → Follows s place next_start.advance x
 follows_here list s t limit count next_start place was x u v et es k e =
     follows_is list s t limit count next_start place was x k (over_same u t v s limit count next_start.place next_start.advance (Some x) et es e)
