@@ -1,0 +1,6 @@
+mod KeyLemmas
+mod LengthLemmas
+mod LiteralLemmas
+mod PartLemmas
+mod ReaderLemmas
+mod RunLemmas

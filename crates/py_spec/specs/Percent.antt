@@ -1,0 +1,6 @@
+-- Templates of percent formatting.
+pub mod Flags
+pub mod Literals
+pub mod Reading
+pub mod Specifiers
+pub mod Template

@@ -1,0 +1,25 @@
+-- The flags of a specifier, and how they are read.
+use Rattle.std.specs.Prelude.{ℕ, List, [], ◌∷◌, Option, Some, None}
+use Rattle.std.specs.Int.RustNames.{bit_or}
+use Rattle.py_base.specs.Reading.{find}
+use Rattle.py_spec.specs.declared.percent.parts.CConversionFlags.{CConversionFlags}
+
+-- a flag is a bit
+abbrev pub flag : ℕ → CConversionFlags
+flag b = record { 0 = b }
+
+abbrev pub with_flags : CConversionFlags → CConversionFlags → CConversionFlags
+with_flags a b = flag (bit_or a.0 b.0)
+
+-- `#`, `0`, `-`, the space and `+`
+abbrev pub flags_by_sign : List (ℕ × CConversionFlags)
+flags_by_sign = (35, flag 1) ∷ (48, flag 2) ∷ (45, flag 4) ∷ (32, flag 8) ∷ (43, flag 16) ∷ []
+
+abbrev pub flags_on : Option CConversionFlags → CConversionFlags → List ℕ → (CConversionFlags → CConversionFlags × List ℕ) → CConversionFlags × List ℕ
+flags_on None flags cs next = (flags, cs)
+flags_on (Some f) flags cs next = next (with_flags flags f)
+
+-- these flags and those that come next, in any order and number
+abbrev pub read_flags : CConversionFlags → List ℕ → CConversionFlags × List ℕ
+read_flags flags [] = (flags, [])
+read_flags flags (c ∷ cs) = flags_on (find flags_by_sign c) flags (c ∷ cs) (λ f. read_flags f cs)

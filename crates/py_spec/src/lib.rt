@@ -1,0 +1,10 @@
+//! The grammars of templates: what a template is made of, and how one value is written.
+#![tactic(auto)]
+
+mod percent;
+
+pub use percent::parts::{
+    CConversionFlags, CFormatConversion, CFormatKey, CFormatPart, CFormatPrecision,
+    CFormatQuantity, CFormatSpec, CFormatType, CNumberType,
+};
+pub use percent::template::CFormatString;
