@@ -6,11 +6,19 @@ use py_text::PyStr;
 use py_value::{Host, HostAnswer, HostMethod, HostRow, HostTable, NoHost, TableHost, Value};
 use std::alloc::Global;
 
+// The integer that a value is, or -1 for another value.
+fn integer_of(value: &Value) -> i128 {
+    match value.as_integer() {
+        Some(number) => number.as_i128(),
+        None => -1,
+    }
+}
+
 // The integer of an answer, -1 where there is none, or -2 where the host failed.
 fn number_of(answer: Result<Option<Value>, HostAnswer>) -> i128 {
     match answer {
-        Ok(Some(Value::Int(number))) => number.as_i128(),
-        Ok(_) => -1,
+        Ok(Some(value)) => integer_of(&value),
+        Ok(None) => -1,
         Err(_) => -2,
     }
 }
