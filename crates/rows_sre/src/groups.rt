@@ -4,7 +4,7 @@ ghost use Rattle.std.specs.Prelude.{◌≡◌, ◌<◌};
 
 use py_base::Steps;
 use sre_code::{Checked, decode};
-use sre_match::{Marks, MatchError, PlaceView, Request, State};
+use sre_match::{ByteView, Marks, MatchError, Request, State};
 use std::alloc::Global;
 use std::marker::Brand;
 use std::sync::ledger::{Blank, Ledger};
@@ -14,7 +14,7 @@ use std::test::Fail;
 fn searched_by<L: Ledger>(
     alloc: Global,
     code: &Checked,
-    subject: &[u32],
+    subject: &[u8],
     blank: Blank,
 ) -> Result<State, MatchError>
     requires name { blank.name ≡ L.name }
@@ -22,13 +22,13 @@ fn searched_by<L: Ledger>(
     requires some { 0 < L.parts }
 {
     let mut steps = Steps::<L>::new(blank);
-    let request = Request::new(PlaceView::new(subject), 0, subject.len(), code, false);
+    let request = Request::new(ByteView::new(subject), 0, subject.len(), code, false);
     let mut state = State::new(alloc);
     let _found = state.search(&request, &mut steps)?;
     Ok(state)
 }
 
-fn searched(alloc: Global, code: &Checked, subject: &[u32]) -> Result<State, MatchError> {
+fn searched(alloc: Global, code: &Checked, subject: &[u8]) -> Result<State, MatchError> {
     searched_by::<Brand>(alloc, code, subject, Blank::new(1))
 }
 
@@ -40,20 +40,20 @@ fn closings(marks: &Marks) -> Closings {
 }
 
 // A code, its groups, a subject, and the first group's span and `lastindex` in CPython.
-const ROWS: [(&[u32], usize, &[u32], Closings); 4] = [
+const ROWS: [(&[u32], usize, &[u8], Closings); 4] = [
     // `a` in `ba`
-    (&[16, 97, 1], 0, &[98, 97], (None, None)),
+    (&[16, 97, 1], 0, b"ba", (None, None)),
     // `(a)|b` in `a` and in `b`
     (
         &[7, 9, 17, 0, 16, 97, 17, 1, 15, 7, 5, 16, 98, 15, 2, 0, 1],
         1,
-        &[97],
+        b"a",
         (Some((0, 1)), Some(1)),
     ),
     (
         &[7, 9, 17, 0, 16, 97, 17, 1, 15, 7, 5, 16, 98, 15, 2, 0, 1],
         1,
-        &[98],
+        b"b",
         (None, None),
     ),
     // `(?:(a)|b)*` in `ab`
@@ -62,7 +62,7 @@ const ROWS: [(&[u32], usize, &[u32], Closings); 4] = [
             23, 19, 0, 4294967295, 7, 9, 17, 0, 16, 97, 17, 1, 15, 7, 5, 16, 98, 15, 2, 0, 18, 1,
         ],
         1,
-        &[97, 98],
+        b"ab",
         (Some((0, 1)), Some(1)),
     ),
 ];

@@ -4,7 +4,7 @@ ghost use Rattle.std.specs.Prelude.{◌≡◌, ◌<◌};
 
 use py_base::Steps;
 use sre_code::{Checked, decode};
-use sre_match::{MatchError, PlaceView, Request, SearchIter};
+use sre_match::{ByteView, MatchError, Request, SearchIter};
 use std::alloc::Global;
 use std::marker::Brand;
 use std::sync::ledger::{Blank, Ledger};
@@ -16,7 +16,7 @@ type Spans = Vec<(usize, usize)>;
 fn spans_by<L: Ledger>(
     alloc: Global,
     code: &Checked,
-    subject: &[u32],
+    subject: &[u8],
     blank: Blank,
 ) -> Result<Spans, MatchError>
     requires name { blank.name ≡ L.name }
@@ -24,7 +24,7 @@ fn spans_by<L: Ledger>(
     requires some { 0 < L.parts }
 {
     let mut steps = Steps::<L>::new(blank);
-    let request = Request::new(PlaceView::new(subject), 0, subject.len(), code, false);
+    let request = Request::new(ByteView::new(subject), 0, subject.len(), code, false);
     let mut walk = SearchIter::new(alloc, request);
     let mut spans = Vec::new(alloc);
     for _ in 0..8 {
@@ -36,27 +36,27 @@ fn spans_by<L: Ledger>(
     Ok(spans)
 }
 
-fn spans(alloc: Global, code: &Checked, subject: &[u32]) -> Result<Spans, MatchError> {
+fn spans(alloc: Global, code: &Checked, subject: &[u8]) -> Result<Spans, MatchError> {
     spans_by::<Brand>(alloc, code, subject, Blank::new(1))
 }
 
 // A code, a subject, and the spans that repeated calls of `scanner.search` give in CPython.
-const ROWS: [(&[u32], &[u32], &[(usize, usize)]); 4] = [
+const ROWS: [(&[u32], &[u8], &[(usize, usize)]); 4] = [
     // `a` in `ba`
-    (&[16, 97, 1], &[98, 97], &[(1, 2)]),
+    (&[16, 97, 1], b"ba", &[(1, 2)]),
     // `|a` in `ba` and in `aa`
     (
         &[7, 3, 15, 7, 5, 16, 97, 15, 2, 0, 1],
-        &[98, 97],
+        b"ba",
         &[(0, 0), (1, 1), (1, 2), (2, 2)],
     ),
     (
         &[7, 3, 15, 7, 5, 16, 97, 15, 2, 0, 1],
-        &[97, 97],
+        b"aa",
         &[(0, 0), (0, 1), (1, 1), (1, 2), (2, 2)],
     ),
     // nothing in `ab`
-    (&[1], &[97, 98], &[(0, 0), (1, 1), (2, 2)]),
+    (&[1], b"ab", &[(0, 0), (1, 1), (2, 2)]),
 ];
 
 #[test]

@@ -15,6 +15,4 @@ pub use iterator::SearchIter;
 pub use marks::Marks;
 pub use request::Request;
 pub use state::State;
-pub use view::{
-    ByteView, MeteredView, PlaceView, StrDrive, StringCursor, TextView, metered_search,
-};
+pub use view::{ByteView, MeteredView, StrDrive, StringCursor, TextView, metered_search};

@@ -8,13 +8,11 @@ use std::sync::ledger::Ledger;
 
 mod bytes;
 mod metered;
-mod place;
 pub mod short;
 mod text;
 
 pub use bytes::ByteView;
 pub use metered::{MeteredView, metered_search};
-pub use place::PlaceView;
 pub use text::TextView;
 
 /// A place of a subject, counted in units from its beginning, and the bytes before it, where units

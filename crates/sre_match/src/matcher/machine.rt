@@ -254,6 +254,7 @@ fn run_from<'t, S: StrDrive, L: Ledger>(
             Progress::NoMemory => return Err(AllocError),
         }
     }
+    // No machine gets here, after 2^64 - 1 turns. The bound spares a second proof that they end.
     Err(AllocError)
 }
 
