@@ -41,13 +41,13 @@ pub enum Progress {
 /// Which ends are allowed: with `advance` not the place where the attempt began, and with `whole`
 /// the end of the subject alone.
 #[derive(Clone, Copy, Drop)]
-pub struct Ends {
+pub struct AllowedEnds {
     pub advance: bool,
     pub whole: bool,
 }
 
 // Whether an end is allowed.
-fn is_allowed(len: usize, start: usize, ends: Ends, end: usize) -> bool
+fn is_allowed(len: usize, start: usize, ends: AllowedEnds, end: usize) -> bool
     ensures { (s : List ℕ) → length s ≡ len → result ≡ is_allowed s start (allowed_by ends) end }
 {
     (!ends.advance || end != start) && (!ends.whole || end == len)
@@ -161,7 +161,7 @@ fn next_turn<'t, S: StrDrive, L: Ledger>(
     current: &mut Current<'t>,
     trail: &mut Trail<'t>,
     start: usize,
-    ends: Ends,
+    ends: AllowedEnds,
     steps: &mut Steps<L>,
 ) -> Progress
     requires ready { Ready (S.fits s.now) current.old trail.old }
@@ -234,7 +234,7 @@ fn run_from<'t, S: StrDrive, L: Ledger>(
     trail: &mut Trail<'t>,
     s: &Subject<'_, S>,
     start: usize,
-    ends: Ends,
+    ends: AllowedEnds,
     steps: &mut Steps<L>,
 ) -> Result<Option<StringCursor>, AllocError>
     requires ready { Ready (S.fits s.now) current trail.old }
@@ -263,7 +263,7 @@ pub fn find_at<'t, S: StrDrive, L: Ledger>(
     tree: &'t Tree,
     s: &Subject<'_, S>,
     start: &StringCursor,
-    ends: Ends,
+    ends: AllowedEnds,
     steps: &mut Steps<L>,
 ) -> Result<Option<StringCursor>, AllocError>
     requires fits { S.fits s.now start.now ≡ true }

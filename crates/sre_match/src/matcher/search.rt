@@ -6,7 +6,7 @@ ghost use Rattle.sre_match.specs.Machine.{outcome_at, span_with};
 ghost use Rattle.sre_match.specs.Matches.{first_allowed, reads, next_span, next_reads};
 ghost use Rattle.sre_match.specs.Search.{allowed_in};
 
-use crate::matcher::machine::{Ends, find_at};
+use crate::matcher::machine::{AllowedEnds, find_at};
 use crate::matcher::subject::Subject;
 use crate::matcher::trail::Trail;
 use crate::request::Request;
@@ -34,7 +34,7 @@ pub fn first_end<'c, S: StrDrive, L: Ledger>(
 {
     let subject = Subject::new(&request.string, request.end);
     let code = request.code;
-    let ends = Ends {
+    let ends = AllowedEnds {
         advance,
         whole: request.match_all,
     };
