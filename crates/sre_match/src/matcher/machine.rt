@@ -228,8 +228,8 @@ fn first_current<'t, S: StrDrive, L: Ledger>(
     }
 }
 
-// The end of the first allowed outcome of what is to be tried. The trail then has its marks.
-fn run_from<'t, S: StrDrive, L: Ledger>(
+/// The end of the first allowed outcome of what is to be tried. The trail then has its marks.
+pub fn run_from<'t, S: StrDrive, L: Ledger>(
     current: Current<'t>,
     trail: &mut Trail<'t>,
     s: &Subject<'_, S>,
