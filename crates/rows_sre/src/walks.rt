@@ -41,7 +41,7 @@ fn spans(alloc: Global, code: &Checked, subject: &[u8]) -> Result<Spans, MatchEr
 }
 
 // A code, a subject, and the spans that repeated calls of `scanner.search` give in CPython.
-const ROWS: [(&[u32], &[u8], &[(usize, usize)]); 4] = [
+const ROWS: [(&[u32], &[u8], &[(usize, usize)]); 6] = [
     // `a` in `ba`
     (&[16, 97, 1], b"ba", &[(1, 2)]),
     // `|a` in `ba` and in `aa`
@@ -57,6 +57,21 @@ const ROWS: [(&[u32], &[u8], &[(usize, usize)]); 4] = [
     ),
     // nothing in `ab`
     (&[1], b"ab", &[(0, 0), (1, 1), (2, 2)]),
+    // `(?:a|bc)d` in `acbcdad`
+    (
+        &[7, 5, 16, 97, 15, 9, 7, 16, 98, 16, 99, 15, 2, 0, 16, 100, 1],
+        b"acbcdad",
+        &[(2, 5), (5, 7)],
+    ),
+    // `(?:\d+|5x)-` in `15x- 25x-9-`
+    (
+        &[
+            7, 13, 24, 9, 1, 4294967295, 13, 4, 8, 10, 0, 1, 15, 9, 7, 16, 53, 16, 120, 15, 2, 0,
+            16, 45, 1,
+        ],
+        b"15x- 25x-9-",
+        &[(1, 4), (6, 9), (9, 11)],
+    ),
 ];
 
 #[test]

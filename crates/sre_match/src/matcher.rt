@@ -5,6 +5,8 @@ mod branches;
 mod choices;
 mod frames;
 mod iterations;
+mod leads;
+mod led;
 mod machine;
 mod nodes;
 mod references;

@@ -3,13 +3,14 @@
 ghost use Rattle.sre_match.specs.Captures.{captures};
 ghost use Rattle.sre_match.specs.Cursor.{Cursor};
 ghost use Rattle.sre_match.specs.Fits.{Fit, Stays, Ready};
-ghost use Rattle.std.specs.Prelude.{◌≡◌, ◌≢◌, ◌+◌, ◌≤◌, ◌<◌, ℕ, Bool, List, [], ◌∷◌, ◌++◌, OnOk, true, false, slice_get, length};
-ghost use Rattle.sre_match.specs.Machine.{part_next, to_try, Sound, Gives, Linked, rest_of, trying};
+ghost use Rattle.std.specs.Prelude.{◌≡◌, ◌≢◌, ◌+◌, ◌≤◌, ◌<◌, ℕ, Bool, List, [], ◌∷◌, ◌++◌, OnOk, Some, true, false, slice_get, length};
+ghost use Rattle.sre_match.specs.Machine.{ahead_of, part_next, to_try, Sound, Gives, Leaves, Linked, rest_of, trying};
 ghost use Rattle.sre_match.specs.Attempts.{Attempt, after, Marks};
 ghost use Rattle.sre_match.specs.Paths.{all_paths};
 ghost use Rattle.sre_match.specs.Anchors as places;
 ghost use Rattle.sre_match.specs.Singles as singles;
 ghost use Rattle.sre_match.specs.Branches as spec;
+ghost use Rattle.sre_match.specs.Leads.{all_single, any_left};
 ghost use Rattle.sre_code.specs.TreeView.{node_of, trees_of};
 
 use crate::matcher::choices::keep;
@@ -32,8 +33,8 @@ fn is_met(node: &Node, unit: Option<u32>) -> bool
     }
 }
 
-// Whether an alternative begins with one unit.
-fn begins_single(t: &Tree) -> bool
+/// Whether an alternative begins with one unit.
+pub fn begins_single(t: &Tree) -> bool
     ensures { result ≡ spec.begins_single t.now }
 {
     match t.nodes() {
@@ -52,8 +53,8 @@ fn is_out(t: &Tree, unit: Option<u32>) -> bool
     }
 }
 
-// The alternatives from the first one on that is not out.
-fn left_of<'t>(trees: &'t [Tree], unit: Option<u32>) -> &'t [Tree]
+/// The alternatives from the first one on that is not out.
+pub fn left_of<'t>(trees: &'t [Tree], unit: Option<u32>) -> &'t [Tree]
     ensures { result.now ≡ spec.left_of trees.entry.now unit }
 {
     let mut left = trees;
@@ -225,6 +226,36 @@ pub fn trees_turn<'t, S: StrDrive, L: Ledger>(
                 read_turn(t, more, s, current, trail, steps)
             } else {
                 chosen_turn(t, more, current, trail)
+            }
+        }
+    }
+}
+
+/// Alternatives are next that each begin with one unit, of which the one here is known. One is left
+/// that it does not rule out.
+pub fn known_turn<'t, S: StrDrive>(
+    trees: &'t [Tree],
+    unit: u32,
+    s: &Subject<'_, S>,
+    current: &mut Current<'t>,
+    trail: &mut Trail<'t>,
+) -> Result<(), AllocError>
+    requires within { current.old.cursor.place < length s.now }
+    requires unit { Some unit ≡ slice_get s.now current.old.cursor.place }
+    requires begins { all_single trees.now ≡ true }
+    requires left { any_left (spec.left_of trees.now (Some unit)) ≡ true }
+    requires ready { Ready (S.fits s.now) current.old trail.old }
+    ensures gives { OnOk result ((n : ℕ) → Leaves n (n + 1)
+        (trying (all_paths (trees_of trees.entry.now) s.now) current.old s.now trail.old)
+        (ahead_of current.new s.now trail.new)) }
+    ensures ready { OnOk result (Ready (S.fits s.now) current.new trail.new) }
+{
+    match left_of(trees, Some(unit)) {
+        [] => Err(AllocError),
+        [t, others @ ..] => {
+            match met_turn(t, left_of(others, Some(unit)), s, current, trail) {
+                Turn::Go => Ok(()),
+                _ => Err(AllocError),
             }
         }
     }

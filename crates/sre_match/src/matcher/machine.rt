@@ -41,13 +41,13 @@ pub enum Progress {
 /// Which ends are allowed: with `advance` not the place where the attempt began, and with `whole`
 /// the end of the subject alone.
 #[derive(Clone, Copy, Drop)]
-pub struct Ends {
+pub struct AllowedEnds {
     pub advance: bool,
     pub whole: bool,
 }
 
 // Whether an end is allowed.
-fn is_allowed(len: usize, start: usize, ends: Ends, end: usize) -> bool
+fn is_allowed(len: usize, start: usize, ends: AllowedEnds, end: usize) -> bool
     ensures { (s : List ℕ) → length s ≡ len → result ≡ is_allowed s start (allowed_by ends) end }
 {
     (!ends.advance || end != start) && (!ends.whole || end == len)
@@ -161,7 +161,7 @@ fn next_turn<'t, S: StrDrive, L: Ledger>(
     current: &mut Current<'t>,
     trail: &mut Trail<'t>,
     start: usize,
-    ends: Ends,
+    ends: AllowedEnds,
     steps: &mut Steps<L>,
 ) -> Progress
     requires ready { Ready (S.fits s.now) current.old trail.old }
@@ -228,13 +228,13 @@ fn first_current<'t, S: StrDrive, L: Ledger>(
     }
 }
 
-// The end of the first allowed outcome of what is to be tried. The trail then has its marks.
-fn run_from<'t, S: StrDrive, L: Ledger>(
+/// The end of the first allowed outcome of what is to be tried. The trail then has its marks.
+pub fn run_from<'t, S: StrDrive, L: Ledger>(
     current: Current<'t>,
     trail: &mut Trail<'t>,
     s: &Subject<'_, S>,
     start: usize,
-    ends: Ends,
+    ends: AllowedEnds,
     steps: &mut Steps<L>,
 ) -> Result<Option<StringCursor>, AllocError>
     requires ready { Ready (S.fits s.now) current trail.old }
@@ -264,7 +264,7 @@ pub fn find_at<'t, S: StrDrive, L: Ledger>(
     tree: &'t Tree,
     s: &Subject<'_, S>,
     start: &StringCursor,
-    ends: Ends,
+    ends: AllowedEnds,
     steps: &mut Steps<L>,
 ) -> Result<Option<StringCursor>, AllocError>
     requires fits { S.fits s.now start.now ≡ true }

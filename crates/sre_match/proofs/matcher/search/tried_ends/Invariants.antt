@@ -1,7 +1,7 @@
 use Rattle.std.proofs.Common.{◌≡◌, ◌-◌, ◌+◌, ◌≤◌, true, length}
 use Rattle.sre_match.specs.Matches.{next_span, next_reads}
 use Rattle.sre_match.specs.Search.{allowed_in}
-use Rattle.sre_match.proofs.matcher.search.next_ends.Given as goal
+use Rattle.sre_match.proofs.matcher.search.tried_ends.Given as goal
 
 abbrev pub invariant-places : goal.invariant-places
 invariant-places g l = record {

@@ -4,7 +4,7 @@ use Rattle.sre_match.specs.Machine.{outcome_at}
 use Rattle.sre_match.specs.Search.{allowed_in}
 use Rattle.sre_match.specs.Matches.{first_allowed, next_span, next_reads}
 use Rattle.sre_match.proofs.NextSpanLemmas.{next_past, next_found, next_on, reads_here, reads_on}
-use Rattle.sre_match.proofs.matcher.search.next_ends.Goals as goal
+use Rattle.sre_match.proofs.matcher.search.tried_ends.Goals as goal
 
 pub returns-in_err-stop-clause-cost : goal.returns-in_err-stop-clause-cost
 returns-in_err-stop-clause-cost g c =
