@@ -1,5 +1,5 @@
 -- Lists of texts: places, a text more at the end, and distinctness.
-use Rattle.std.proofs.Common.{◌≡◌, ℕ, ◌+◌, ◌<◌, ◌≤◌, Bool, true, false, ◌⊎◌, inl, inr, nat_lt, nat_eq, List, [], ◌∷◌, ◌++◌, length, take, get_or, slice_get, Option, Some, None, cond, refl, ap, sym, ◌∙◌, suc, zero, arith, subst}
+use Rattle.std.proofs.Common.{◌≡◌, ℕ, ◌+◌, ◌<◌, ◌≤◌, Bool, true, false, ◌⊎◌, inl, inr, nat_lt, nat_eq, List, [], ◌∷◌, ◌++◌, length, take, get_or, slice_get, Option, Some, None, unwrap_or, cond, refl, ap, sym, ◌∙◌, suc, zero, arith, subst}
 use Rattle.std.proofs.lemmas.Bool.{cases_lt}
 use Rattle.std.proofs.lemmas.Bool.Decides.{nat_tests}
 use Rattle.std.proofs.lemmas.Option.{slice_get-get_or, get_or_from_slice_get, slice_get_within}
@@ -7,9 +7,11 @@ use Rattle.std.proofs.lemmas.List.Sums.{fails_before_first}
 use Rattle.std.proofs.lemmas.List.Quantifiers.{position-Some}
 use Rattle.std.proofs.Math.Seq.{take-suc}
 use Rattle.std.specs.List.{position_or_len}
+use Rattle.std.specs.Ordering.{nat_cmp}
+use Rattle.std.specs.declared.cmp.Ordering.TheVariants.{Less}
 use Rattle.std.specs.Cmp.Lexicographic.{pointwise, same_text, bytes_decides}
 use Rattle.py_intern.specs.Pool.{place_of, put, put_by, AreDistinct}
-use Rattle.py_intern.specs.Laws.{AreEqualAsTexts, KeepsTexts, StaysDistinct, FindsItsText}
+use Rattle.py_intern.specs.Laws.{AreEqualAsTexts, NewIsGreatest, KeepsTexts, StaysDistinct, FindsItsText}
 
 -- what is found is there
 pub found_there : (text : List ℕ) (pool : List (List ℕ)) (k : ℕ) → place_of text pool ≡ Some k → slice_get pool k ≡ Some text
@@ -101,6 +103,13 @@ test_of a b h = grind (arith, nat_tests)
 pub equal_as_texts : AreEqualAsTexts nat_eq
 equal_as_texts = λ pool a b d ha hb.
     ((λ t. ap (slice_get pool) (test_same a b t)), (λ e. test_of a b (same_places pool a b d ha e)))
+
+less_place : (a b : ℕ) → a < b → nat_cmp a b ≡ Less
+less_place a b h = grind (arith, nat_tests)
+
+pub new_is_greatest : NewIsGreatest nat_cmp
+new_is_greatest = λ pool text a none h.
+    ap (λ (o : Option ℕ). nat_cmp a (unwrap_or o (length pool))) none ∙ less_place a (length pool) h
 
 -- the first so many texts
 get_taken : (xs : List (List ℕ)) (i k : ℕ) (x : List ℕ) → slice_get (take i xs) k ≡ Some x → (k < i) × (slice_get xs k ≡ Some x)

@@ -1,3 +1,4 @@
 pub mod Laws
 pub mod Pool
 pub mod PoolRows
+pub mod Values

@@ -1,6 +1,8 @@
--- Rows of pools: "a", "b" and "a" again.
+-- Rows of pools: "a", "b" and "a" again, and their texts as values.
 use Rattle.std.specs.Prelude.{◌≡◌, ℕ, List, [], ◌∷◌, Some, None, refl}
+use Rattle.py_value.specs.Plain.{str, none}
 use Rattle.py_intern.specs.Pool.{place_of, place_in, put}
+use Rattle.py_intern.specs.Values.{place_of_value, value_at}
 
 abbrev a : List ℕ
 a = 97 ∷ []
@@ -25,3 +27,12 @@ found = refl
 
 not_found : place_of (99 ∷ []) (a ∷ b ∷ []) ≡ None
 not_found = refl
+
+text_found : place_of_value (str b) (a ∷ b ∷ []) ≡ Some 1
+text_found = refl
+
+no_text_not_found : place_of_value none (a ∷ b ∷ []) ≡ None
+no_text_not_found = refl
+
+value_there : value_at 1 (a ∷ b ∷ []) ≡ Some (str b)
+value_there = refl

@@ -1,12 +1,36 @@
 //! Laws of pools and handles.
 
-ghost use Rattle.py_intern.specs.Laws.{AreEqualAsTexts, KeepsTexts, StaysDistinct, FindsItsText};
+ghost use Rattle.py_text.specs.Laws.{AreEqualAsLists, HashAlike};
+ghost use Rattle.py_intern.specs.Laws.{AreEqualAsTexts, AreOrderedAsPut, NewIsGreatest, KeepsTexts, StaysDistinct, FindsItsText};
 
 use crate::handle::PyStrInterned;
+use crate::keys::CachedPyStrRef;
+use std::hash::Hash;
 
 /// Two handles of a pool are equal exactly where their texts are.
 pub fn handles_equal_as_texts()
     ensures { AreEqualAsTexts ⟦<PyStrInterned as PartialEq>⟧.eq }
+{}
+
+/// Handles are ordered as their places, by `<` and by the order that sorts and maps use.
+pub fn handles_ordered_as_put()
+    ensures {
+        AreOrderedAsPut ⟦<PyStrInterned as PartialOrd>⟧.partial_cmp ⟦<PyStrInterned as Ord>⟧.cmp }
+{}
+
+/// The handle of a text that is new in its pool is greater than all handles before it.
+pub fn new_handle_is_the_greatest()
+    ensures { NewIsGreatest ⟦<PyStrInterned as Ord>⟧.cmp }
+{}
+
+/// Keys of a map are equal exactly where their code points are.
+pub fn keys_equal_as_texts()
+    ensures { AreEqualAsLists ⟦<CachedPyStrRef as PartialEq>⟧.eq }
+{}
+
+/// Keys that are equal by `==` make the same writes to a hasher.
+pub fn equal_keys_hash_alike()
+    ensures { HashAlike ⟦<CachedPyStrRef as PartialEq>⟧.eq ⟦<CachedPyStrRef as Hash>⟧.hash_input }
 {}
 
 /// A handle's text stays after each later `intern`.

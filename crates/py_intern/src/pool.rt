@@ -3,12 +3,15 @@
 ghost use Rattle.std.specs.Prelude.{◌≡◌, ◌<◌, [], ◌∷◌, ◌++◌, length, chars, slice_get, Some, None, IfOk, IfSome, OnOk, OnErr, IsOkUnless};
 ghost use Rattle.py_base.specs.declared.error.PyError.TheVariants.{NoMemory};
 ghost use Rattle.py_intern.specs.Pool.{place_of, place_in, put, AreDistinct};
+ghost use Rattle.py_intern.specs.Values.{place_of_value, value_at};
+ghost use Rattle.py_value.specs.ValueView.{plain_of};
 
 use crate::handle::{PyInterned, PyStrInterned};
 use crate::keys::{InternableString, MaybeInternedString};
 use indexmap::IndexMap;
 use py_base::{PyError, PyResult};
 use py_text::PyStr;
+use py_value::Value;
 use std::alloc::Global;
 use std::marker::Model;
 
@@ -121,6 +124,15 @@ impl StringPool {
         self.text_of(handle).try_clone(alloc)
     }
 
+    /// A copy of a handle's text, as a value.
+    pub fn to_object(&self, alloc: Global, handle: PyStrInterned) -> PyResult<Value>
+        requires { handle < length self.now }
+        ensures ok { IfOk result (λ value. value_at handle self.now ≡ Some (plain_of value)) }
+        ensures err { IsOkUnless result NoMemory }
+    {
+        Ok(Value::Str(self.to_exact(alloc, handle)?))
+    }
+
     /// A copy of the pool, with texts of its own. Each handle has the same text in both.
     pub fn clone_pool(&self, alloc: Global) -> PyResult<StringPool>
         ensures ok { IfOk result (λ copy. copy ≡ self.now) }
@@ -136,10 +148,14 @@ impl StringPool {
     }
 }
 
-/// The handle of a text that the pool has. It takes no memory, and hashes the text once.
-pub fn as_interned_str(value: &PyStr, pool: &StringPool) -> Option<PyStrInterned>
-    ensures place { result ≡ place_of value.now pool.now }
+/// The handle of a value that is a text, where the pool has it. It takes no memory, and hashes the
+/// text once.
+pub fn as_interned_str(value: &Value, pool: &StringPool) -> Option<PyStrInterned>
+    ensures place { result ≡ place_of_value (plain_of value.now) pool.now }
     ensures within { IfSome result (λ handle. handle < length pool.now) }
 {
-    pool.interned(value)
+    match value {
+        Value::Str(text) => pool.interned(text),
+        _ => None,
+    }
 }

@@ -1,3 +1,5 @@
+pub mod AsciiTestLemmas
+pub mod ColumnLemmas
 pub mod KeptLemmas
 pub mod LawLemmas
 pub mod PadLemmas

@@ -1,11 +1,11 @@
 -- Laws of stripped, padded, expanded and encoded texts.
-use Rattle.std.specs.Prelude.{◌≡◌, ◌≤◌, ◌==◌, ℕ, Bool, true, false, List, [], ◌∷◌, ◌++◌, length, encode_utf8_all, IsUtf8}
+use Rattle.std.specs.Prelude.{◌≡◌, ◌≤◌, ◌<◌, ◌+◌, ◌%◌, ◌==◌, ◌||◌, not, ℕ, Bool, true, false, List, [], ◌∷◌, ◌++◌, length, reverse, filter, take_while, encode_utf8_all, IsUtf8}
 use Rattle.std.specs.List.{list_any, list_all}
 use Rattle.std.specs.Str.{all_scalars}
 use Rattle.py_base.specs.Chars.Whitespace.{trim}
 use Rattle.py_str.specs.Codec.{IsDecoded}
-use Rattle.py_str.specs.Pad.{center, ljust, rjust, zfill}
-use Rattle.py_str.specs.Tabs.{expanded}
+use Rattle.py_str.specs.Pad.{run, center, ljust, rjust, zfill}
+use Rattle.py_str.specs.Tabs.{expanded, expanded_at}
 
 -- the first and the last code point fail a test
 pub record FailAtTheEnds (test : ℕ → Bool) (cs : List ℕ) : Type 0 where
@@ -47,6 +47,39 @@ ZerosFillTheWidth = (width : ℕ) (cs : List ℕ) → FillsTheWidth width cs (zf
 -- `expandtabs` leaves no tab
 abbrev pub NoTabIsLeft : Type 0
 NoTabIsLeft = (size : ℕ) (cs : List ℕ) → list_any (λ c. c == 9) (expanded size cs) ≡ false
+
+-- CR and LF begin a line
+abbrev pub is_line_start : ℕ → Bool
+is_line_start c = c == 10 || c == 13
+
+-- how many code points the last line of a text has: what is after the last CR or LF
+abbrev pub last_line_length : List ℕ → ℕ
+last_line_length cs = length (take_while (λ c. not (is_line_start c)) (reverse cs))
+
+-- so many spaces, at least one and at most the size, after which the line is a multiple of the size
+pub record FillUp (size column spaces : ℕ) : Type 0 where
+  pub some : 0 < spaces
+  pub few : spaces ≤ size
+  pub multiple : (column + spaces) % size ≡ 0
+
+-- where a tab is, what is before it is expanded as it would be alone, and then come spaces up to
+-- the next multiple of the size; what is after it goes on at the column that they reach
+abbrev pub TabsReachMultiples : Type 0
+TabsReachMultiples = (size : ℕ) (front back : List ℕ) → 0 < size
+    → let made = expanded size front in let column = last_line_length made in
+    (spaces : ℕ) × FillUp size column spaces
+    × (expanded size (front ++ 9 ∷ back)
+    ≡ made ++ (run spaces 32 ++ expanded_at size (column + spaces) back))
+
+-- but for spaces and tabs, a text whose tabs are expanded is the text
+abbrev pub OnlyTabsChange : Type 0
+OnlyTabsChange = (size : ℕ) (cs : List ℕ)
+    → filter (λ c. not (c == 32)) (expanded size cs)
+    ≡ filter (λ c. not (c == 32 || c == 9)) cs
+
+-- a text without tabs stays
+abbrev pub NoTabNoChange : Type 0
+NoTabNoChange = (size : ℕ) (cs : List ℕ) → list_any (λ c. c == 9) cs ≡ false → expanded size cs ≡ cs
 
 -- what is encoded is UTF-8, and what is decoded of it is the text
 abbrev pub EncodedIsDecoded : Type 0

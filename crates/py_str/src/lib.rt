@@ -1,6 +1,7 @@
 //! Stripping, padding, quoting, codecs and tests of texts.
 #![tactic(auto)]
 
+mod ascii_tests;
 mod bytes_more;
 mod codec;
 pub mod laws;

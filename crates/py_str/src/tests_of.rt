@@ -5,16 +5,27 @@ ghost use Rattle.std.specs.List.{list_all, list_any};
 ghost use Rattle.py_base.specs.Chars.Classes as class;
 ghost use Rattle.py_str.specs.TestsOf as spec;
 
+use crate::ascii_tests::{each_byte_alnum, each_byte_alpha, each_byte_printable};
 use py_base::{
     is_alnum, is_alphabetic, is_decimal, is_digit_char, is_id_continue, is_id_start, is_lower,
     is_numeric, is_printable, is_space, is_title, is_upper,
 };
 use py_text::PyStr;
 
-fn each_alnum(text: &str) -> bool
+fn each_char_alnum(text: &str) -> bool
     ensures { result ≡ list_all class.is_alnum (chars text.now) }
 {
     text.chars().all(|c| is_alnum(c as u32))
+}
+
+fn each_alnum(text: &PyStr) -> bool
+    ensures { result ≡ list_all class.is_alnum text.now }
+{
+    if text.is_ascii() {
+        each_byte_alnum(text.as_str().as_bytes())
+    } else {
+        each_char_alnum(text.as_str())
+    }
 }
 
 fn each_numeric(text: &str) -> bool
@@ -35,10 +46,20 @@ fn each_decimal(text: &str) -> bool
     text.chars().all(|c| is_decimal(c as u32))
 }
 
-fn each_alpha(text: &str) -> bool
+fn each_char_alpha(text: &str) -> bool
     ensures { result ≡ list_all class.is_alphabetic (chars text.now) }
 {
     text.chars().all(|c| is_alphabetic(c as u32))
+}
+
+fn each_alpha(text: &PyStr) -> bool
+    ensures { result ≡ list_all class.is_alphabetic text.now }
+{
+    if text.is_ascii() {
+        each_byte_alpha(text.as_str().as_bytes())
+    } else {
+        each_char_alpha(text.as_str())
+    }
 }
 
 fn each_space(text: &str) -> bool
@@ -47,17 +68,27 @@ fn each_space(text: &str) -> bool
     text.chars().all(|c| is_space(c as u32))
 }
 
-fn each_printable(text: &str) -> bool
+fn each_char_printable(text: &str) -> bool
     ensures { result ≡ list_all class.is_printable (chars text.now) }
 {
     text.chars().all(|c| is_printable(c as u32))
+}
+
+fn each_printable(text: &PyStr) -> bool
+    ensures { result ≡ list_all class.is_printable text.now }
+{
+    if text.is_ascii() {
+        each_byte_printable(text.as_str().as_bytes())
+    } else {
+        each_char_printable(text.as_str())
+    }
 }
 
 /// Whether there is a character, and each is a letter or a number.
 pub(crate) fn isalnum(text: &PyStr) -> bool
     ensures { result ≡ spec.all_are class.is_alnum text.now }
 {
-    !text.is_empty() && each_alnum(text.as_str())
+    !text.is_empty() && each_alnum(text)
 }
 
 /// Whether there is a character, and each is a number.
@@ -85,7 +116,7 @@ pub(crate) fn isdecimal(text: &PyStr) -> bool
 pub(crate) fn isalpha(text: &PyStr) -> bool
     ensures { result ≡ spec.all_are class.is_alphabetic text.now }
 {
-    !text.is_empty() && each_alpha(text.as_str())
+    !text.is_empty() && each_alpha(text)
 }
 
 /// Whether there is a character, and each is whitespace.
@@ -99,7 +130,7 @@ pub(crate) fn isspace(text: &PyStr) -> bool
 pub(crate) fn isprintable(text: &PyStr) -> bool
     ensures { result ≡ spec.isprintable text.now }
 {
-    each_printable(text.as_str())
+    each_printable(text)
 }
 
 fn any_lower(text: &str) -> bool

@@ -2,7 +2,9 @@
 
 use py_base::{PyError, PyResult};
 use py_intern::{InternableString, StringPool, as_interned_str};
+use py_int::PyInt;
 use py_text::PyStr;
+use py_value::Value;
 use std::alloc::Global;
 
 // The places of three texts that are put in turn.
@@ -70,28 +72,43 @@ fn owned_and_borrowed(rt: HostRuntime) -> Result<(), PyError> {
     Ok(())
 }
 
-// Whether a text is found, and its handle gives a copy that is equal to it.
-fn copied_back(alloc: Global, pool: &StringPool, text: &PyStr) -> PyResult<bool> {
-    match as_interned_str(text, pool) {
-        Some(handle) => Ok(pool.to_exact(alloc, handle)? == *text),
-        None => Ok(false),
+// The place of a value whose handle gives it again, 9 where the pool has it not, and 8 where the
+// handle gives another.
+fn given_again(alloc: Global, pool: &StringPool, value: &Value) -> PyResult<usize> {
+    let Some(handle) = as_interned_str(value, pool) else {
+        return Ok(9);
+    };
+    match (value, pool.to_object(alloc, handle)?) {
+        (Value::Str(text), Value::Str(copy)) if copy == *text => Ok(handle.place()),
+        _ => Ok(8),
     }
 }
 
 #[test]
-fn found_by_text(rt: HostRuntime) -> Result<(), PyError> {
+fn found_by_value(rt: HostRuntime) -> Result<(), PyError> {
     let mut pool = StringPool::new(rt.alloc());
-    let (text, other) = (
-        PyStr::copy_of(rt.alloc(), "aé")?,
-        PyStr::copy_of(rt.alloc(), "ae")?,
+    three_places(&mut pool, "a", "1", "aé")?;
+    let (text, other, number) = (
+        Value::Str(PyStr::copy_of(rt.alloc(), "aé")?),
+        Value::Str(PyStr::copy_of(rt.alloc(), "ae")?),
+        Value::Int(PyInt::from(1)),
     );
-    pool.intern("aé")?;
     assert_eq!(rt;
         [
-            copied_back(rt.alloc(), &pool, &text)?,
-            copied_back(rt.alloc(), &pool, &other)?
+            given_again(rt.alloc(), &pool, &text)?,
+            given_again(rt.alloc(), &pool, &other)?,
+            given_again(rt.alloc(), &pool, &number)?
         ],
-        [true, false]
+        [2, 9, 9]
     );
+    Ok(())
+}
+
+#[test]
+fn copied_exactly(rt: HostRuntime) -> Result<(), PyError> {
+    let mut pool = StringPool::new(rt.alloc());
+    let handle = pool.intern("aé")?;
+    let copy = pool.to_exact(rt.alloc(), handle)?;
+    assert_eq!(rt; (copy.as_str(), pool.len()), ("aé", 1));
     Ok(())
 }
