@@ -1,4 +1,4 @@
-//! Reading the text of a regular expression, a token at a time.
+//! Reading a pattern, a token at a time.
 #![tactic(auto)]
 
 mod number;
@@ -7,4 +7,4 @@ mod token;
 
 pub use number::Number;
 pub use reading::next_token;
-pub use token::{GroupName, Opening, Token};
+pub use token::{GroupName, Lexed, Opening, Token};

@@ -1,6 +1,6 @@
-//! How many tokens a text has, and where the grammar has none.
+//! How many tokens a pattern has, and where the grammar has none.
 
-use re_parse::{Token, next_token};
+use re_parse::{Lexed, next_token};
 use re_tree::TextFlags;
 use std::alloc::{AllocError, Global};
 
@@ -25,8 +25,9 @@ fn count(alloc: Global, text: &[char]) -> Result<Option<usize>, AllocError> {
     for tokens in 0..text.len() {
         let begin = text.len().saturating_sub(rest.len());
         match next_token(alloc, FLAGS, begin, rest)? {
-            None => return Ok(if rest.is_empty() { Some(tokens) } else { None }),
-            Some((_token, after)) => rest = after,
+            Lexed::End => return Ok(Some(tokens)),
+            Lexed::NoToken => return Ok(None),
+            Lexed::Token(_token, after) => rest = after,
         }
     }
     Ok(Some(text.len()))
