@@ -1,9 +1,13 @@
 //! Reading a pattern, a token at a time.
 #![tactic(auto)]
 
+mod digits;
+pub mod laws;
 mod number;
 mod reading;
+mod shape;
 mod token;
+mod width;
 
 pub use number::Number;
 pub use reading::next_token;

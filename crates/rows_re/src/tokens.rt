@@ -1,6 +1,6 @@
 //! How many tokens a pattern has, and where the grammar has none.
 
-use re_parse::{Lexed, next_token};
+use re_parse::{Lexed, Token, next_token};
 use re_tree::TextFlags;
 use std::alloc::{AllocError, Global};
 
@@ -75,5 +75,33 @@ fn long(rt: HostRuntime) -> Result<(), AllocError> {
     }
     text.push('}')?;
     assert_eq!(rt; count(rt.alloc(), &text)?, Some(2));
+    Ok(())
+}
+
+// The bounds of the count at the front, where 32 bits hold them.
+fn bounds(alloc: Global, text: &str) -> Result<(Option<u32>, Option<u32>), AllocError> {
+    let all = characters(alloc, text)?;
+    match next_token(alloc, FLAGS, 0, &all)? {
+        Lexed::Token(Token::Count(_, least, Some(most), _), _) => {
+            Ok((least.to_u32(), most.to_u32()))
+        }
+        _ => Ok((None, None)),
+    }
+}
+
+#[test]
+fn bounds_of_counts(rt: HostRuntime) -> Result<(), AllocError> {
+    assert_eq!(rt;
+        [
+            bounds(rt.alloc(), "{007,4294967295}")?,
+            bounds(rt.alloc(), "{4294967296,8}")?,
+            bounds(rt.alloc(), "?")?,
+        ],
+        [
+            (Some(7), Some(4294967295)),
+            (None, Some(8)),
+            (Some(0), Some(1))
+        ]
+    );
     Ok(())
 }
