@@ -7,7 +7,7 @@ use Rattle.re_tree.specs.declared.fault.Fault.{Fault}
 use Rattle.re_tree.specs.declared.fault.FaultKind.{FaultKind}
 use Rattle.re_tree.specs.declared.fault.FaultKind.TheVariants.{TooDeep, TooManyGroups, BadName, BadCount, BadReference, NotFixedWidth}
 use Rattle.re_tree.specs.Faults.{rank, is_before, the_first, first_of}
-use Rattle.re_parse.specs.FirstPass.{earlier}
+use Rattle.re_parse.specs.FirstPass.{earlier, note}
 
 rank_small : (k : FaultKind) → rank k < 8
 rank_small TooDeep = omega arith
@@ -103,3 +103,11 @@ earlier_swap None None = refl
 earlier_swap None (Some b) = refl
 earlier_swap (Some a) None = refl
 earlier_swap (Some a) (Some b) = swap (is_before b a) (is_before a b) a b refl refl
+
+pub nothing_noted : (o : Option Fault) → o ≡ note o []
+nothing_noted None = refl
+nothing_noted (Some a) = refl
+
+-- what is found is noted one after another
+pub note_more : (o : Option Fault) (xs ys : List Fault) → note (note o xs) ys ≡ note o (xs ++ ys)
+note_more o xs ys = earlier_earlier o (first_of xs) (first_of ys) ∙ ap (earlier o) (sym (first_append xs ys))

@@ -6,9 +6,9 @@ use Rattle.re_parse.specs.declared.shape.Ended.{Ended}
 use Rattle.re_parse.specs.declared.shape.Ended.TheVariants.{Zero, One, More}
 use Rattle.re_parse.specs.declared.shape.Shape.{Shape}
 use Rattle.re_parse.specs.declared.shape.Body.{Body}
-use Rattle.re_parse.specs.declared.shape.Construct.{Construct}
-use Rattle.re_parse.specs.declared.shape.Construct.TheVariants.{Capture, Group, Lookahead, Lookbehind, Conditional}
-use Rattle.re_parse.specs.declared.shape.Opened.{Opened}
+use Rattle.re_parse.specs.declared.construct.Construct.{Construct}
+use Rattle.re_parse.specs.declared.construct.Construct.TheVariants.{Capture, Group, Lookahead, Lookbehind, Conditional}
+use Rattle.re_parse.specs.declared.construct.Opened.{Opened}
 use Rattle.re_tree.specs.PlainText.{GroupName, numbered, named, PlainText, Names, name_of}
 use Rattle.re_tree.specs.Tokens.{Opening, capturing, non_capturing, atomic_opening, look_opening, conditional_opening, Token, unit_token, anchor_token, reference_token, count_token, open_token, bar, close}
 use Rattle.re_tree.specs.Grammar.{Flags}

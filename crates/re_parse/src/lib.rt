@@ -1,7 +1,9 @@
 //! Reading a pattern, a token at a time.
 #![tactic(auto)]
 
+mod construct;
 mod digits;
+mod first_fault;
 pub mod laws;
 mod number;
 mod reading;

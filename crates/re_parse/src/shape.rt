@@ -1,16 +1,14 @@
 //! What is needed of the parts of a pattern to find its faults: their widths, and what may have a
 //! count after it.
 
-ghost use Rattle.std.specs.Prelude.{◌≡◌, ◌||◌, nat_lt, false, Some, IfOk};
+ghost use Rattle.std.specs.Prelude.{◌≡◌, ◌||◌, nat_lt, IfOk};
 ghost use Rattle.re_tree.specs.declared.limits.TheConstants.{MAX_COUNT};
 ghost use Rattle.re_tree.specs.Faults as faults;
 ghost use Rattle.re_tree.specs.Widths as widths;
 ghost use Rattle.re_parse.specs.FirstPass as spec;
 ghost use Rattle.re_parse.specs.FirstPass.{no_body};
-ghost use Rattle.re_parse.specs.TokenView.{opening_of};
 
 use crate::number::Number;
-use crate::token::Opening;
 use crate::width::Width;
 use re_tree::limits::{MAX_COUNT, MAX_WIDTH};
 use std::alloc::{AllocError, Global};
@@ -38,25 +36,6 @@ pub(crate) struct Body {
     pub(crate) joined: Option<Width>,
     pub(crate) before: Option<Width>,
     pub(crate) last: Option<Shape>,
-}
-
-// What an opening begins.
-#[derive(Clone, Copy, PartialEq, Eq, Debug)]
-pub(crate) enum Construct {
-    Capture,
-    Group,
-    Lookahead,
-    Lookbehind,
-    Conditional,
-}
-
-// What was open around an opening, and the number of a group that it begins.
-#[derive(Debug, Drop)]
-pub(crate) struct Opened {
-    pub(crate) begin: usize,
-    pub(crate) construct: Construct,
-    pub(crate) number: usize,
-    pub(crate) around: Body,
 }
 
 // The width of two parts, one after the other.
@@ -254,7 +233,7 @@ impl Body {
     }
 
     // What a conditional with this body is; it has at most two branches.
-    fn conditional(self, alloc: Global) -> Result<Option<Shape>, AllocError>
+    pub(crate) fn conditional(self, alloc: Global) -> Result<Option<Shape>, AllocError>
         ensures { IfOk result (λ shape. shape ≡ spec.conditional_shape self.ended self) }
     {
         let pieces = pieces_width(alloc, self.before, self.last)?;
@@ -267,52 +246,5 @@ impl Body {
             countable: true,
             width,
         }))
-    }
-
-    // What an opening with this body is.
-    pub(crate) fn close(
-        self,
-        alloc: Global,
-        construct: Construct,
-    ) -> Result<Option<Shape>, AllocError>
-        ensures { IfOk result (λ shape. shape ≡ spec.closed_shape construct self) }
-    {
-        match construct {
-            Construct::Capture => Ok(Some(Shape {
-                countable: true,
-                width: self.width(alloc)?,
-            })),
-            Construct::Group => Ok(Some(Shape {
-                countable: true,
-                width: self.width(alloc)?,
-            })),
-            Construct::Lookahead => Ok(Some(look_shape())),
-            Construct::Lookbehind => Ok(Some(look_shape())),
-            Construct::Conditional => self.conditional(alloc),
-        }
-    }
-}
-
-// What a lookaround is.
-fn look_shape() -> Shape
-    ensures { result ≡ record { countable = false; width = Some 0 } }
-{
-    Shape {
-        countable: false,
-        width: Some(Width::new(0)),
-    }
-}
-
-// What an opening begins.
-pub(crate) fn construct_of(opening: &Opening) -> Construct
-    ensures { result ≡ spec.construct_of (opening_of opening.now) }
-{
-    match opening {
-        Opening::Capturing(_) => Construct::Capture,
-        Opening::NonCapturing => Construct::Group,
-        Opening::Atomic => Construct::Group,
-        Opening::Look { behind: true, .. } => Construct::Lookbehind,
-        Opening::Look { behind: false, .. } => Construct::Lookahead,
-        Opening::Conditional(_) => Construct::Conditional,
     }
 }
