@@ -1,5 +1,5 @@
-//! The token at the front of a pattern. There is one function for each construct, named as it is, and
-//! none calls itself.
+//! The token at the front of a pattern. There is one function for each construct, named as it is,
+//! and none calls itself.
 
 ghost use Rattle.std.specs.Prelude.{◌≡◌, IfOk};
 ghost use Rattle.py_base.specs.Reading.{find};

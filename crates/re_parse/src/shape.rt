@@ -28,8 +28,8 @@ pub(crate) struct Shape {
     pub(crate) width: Option<Width>,
 }
 
-// What is needed of branches and pieces: how many branches have ended, their common width, the width
-// of the pieces before the last one, and the last one.
+// What is needed of branches and pieces: how many branches have ended, their common width, the
+// width of the pieces before the last one, and the last one.
 #[derive(Debug, Drop)]
 pub(crate) struct Body {
     pub(crate) ended: Ended,

@@ -7,8 +7,8 @@ pub fn widths_are_kept()
     ensures { WidthsAreKept }
 {}
 
-/// The attempts of a pattern's tree that pass have, in order, the ends and captures of the pattern's own
-/// outcomes: at every place of every subject, and with whatever captures before.
+/// The attempts of a pattern's tree that pass have, in order, the ends and captures of the pattern's
+/// own outcomes: at every place of every subject, and with whatever captures before.
 pub fn the_tree_means_the_text()
     ensures { TheTreeMeansTheText }
 {}

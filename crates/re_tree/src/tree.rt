@@ -31,8 +31,8 @@ pub enum GroupId {
     Name(PyStr),
 }
 
-/// One part of a pattern. `at` is the place, in code points, of the parenthesis, backslash or count that
-/// begins the part.
+/// One part of a pattern. `at` is the place, in code points, of the parenthesis, backslash or count
+/// that begins the part.
 #[derive(Debug, Drop)]
 #[cycle(text_tree)]
 pub enum TextTree {
