@@ -1,4 +1,11 @@
 pub mod DigitLemmas
+pub mod FirstFaultLemmas
 pub mod HexLemmas
 pub mod ItemLemmas
+pub mod LongNumberLemmas
 pub mod NameLemmas
+pub mod NumberLemmas
+pub mod PartLemmas
+pub mod PassLemmas
+pub mod PieceLemmas
+pub mod ShapeLemmas

@@ -4,19 +4,21 @@ use Rattle.std.specs.Option.{option_map}
 use denote.Bor.{Bor}
 use Rattle.re_tree.specs.PlainText.{GroupName, numbered, named}
 use Rattle.re_tree.specs.TextView.{test_of}
-use Rattle.re_tree.specs.Tokens.{Opening, capturing, grouping, keeping, looking, choosing, Token, unit_token, anchor_token, reference_token, count_token, open_token, bar, close}
+use Rattle.re_tree.specs.Tokens.{Opening, capturing, non_capturing, atomic_opening, look_opening, conditional_opening, Token, unit_token, anchor_token, reference_token, count_token, open_token, bar, close}
 use Rattle.re_tree.specs.Grammar.{value, greatest_of}
 use Rattle.re_tree.specs.Sets.{items_at}
-use Rattle.re_tree.specs.Reading.{Found, Bounds, digits_of, after_digits, most_at, with_mode, set_token}
+use Rattle.re_tree.specs.Reading.{Found, Lexed, lexed, at_end, no_token, Bounds, digits_of, after_digits, most_at, with_mode, set_token}
 use Rattle.re_tree.specs.Tables.{Letter, is_character_of, digits_follow, categories, anchors}
 use Rattle.re_parse.specs.declared.reading.letters.Letter.{Letter as LetterInMemory}
 use Rattle.re_parse.specs.declared.reading.letters.Letter.TheVariants.{Character, Digits, Category, Anchor}
 use Rattle.re_parse.specs.declared.token.GroupName.{GroupName as NameInMemory}
 use Rattle.re_parse.specs.declared.token.GroupName.TheVariants.{Number, Name}
 use Rattle.re_parse.specs.declared.token.Opening.{Opening as OpeningInMemory}
-use Rattle.re_parse.specs.declared.token.Opening.TheVariants.{Capturing, Grouping, Keeping, Looking, Choosing}
+use Rattle.re_parse.specs.declared.token.Opening.TheVariants.{Capturing, NonCapturing, Atomic, Look, Conditional}
+use Rattle.re_parse.specs.declared.token.Lexed.{Lexed as LexedInMemory}
+use Rattle.re_parse.specs.declared.token.Lexed.TheVariants.{Token as TokenNext, End, NoToken}
 use Rattle.re_parse.specs.declared.token.Token.{Token as TokenInMemory}
-use Rattle.re_parse.specs.declared.token.Token.TheVariants.{Unit as UnitToken, Place, Reference, Count, Open, Bar, Close}
+use Rattle.re_parse.specs.declared.token.Token.TheVariants.{Unit as UnitToken, Anchor as AnchorToken, Reference, Count, Open, Bar, Close}
 
 abbrev pub group_named : NameInMemory → GroupName
 group_named (Number n) = numbered n
@@ -24,19 +26,25 @@ group_named (Name name) = named name
 
 abbrev pub opening_of : OpeningInMemory → Opening
 opening_of (Capturing name) = capturing name
-opening_of Grouping = grouping
-opening_of Keeping = keeping
-opening_of (Looking positive back) = looking positive back
-opening_of (Choosing id) = choosing (group_named id)
+opening_of NonCapturing = non_capturing
+opening_of Atomic = atomic_opening
+opening_of (Look positive behind) = look_opening positive behind
+opening_of (Conditional id) = conditional_opening (group_named id)
 
 abbrev pub token_of : TokenInMemory → Token
 token_of (UnitToken test) = unit_token (test_of test)
-token_of (Place k) = anchor_token k
+token_of (AnchorToken k) = anchor_token k
 token_of (Reference begin id) = reference_token begin (group_named id)
 token_of (Count begin least most mode) = count_token begin least most mode
 token_of (Open begin opening) = open_token begin (opening_of opening)
 token_of Bar = bar
 token_of Close = close
+
+-- what is next
+abbrev pub lexed_of : LexedInMemory → Lexed
+lexed_of (TokenNext token rest) = lexed (token_of token) rest.now
+lexed_of End = at_end
+lexed_of NoToken = no_token
 
 -- a token and what is left after it, where there is one
 abbrev pub found_of : Option (TokenInMemory × Bor (List ℕ)) → Found

@@ -1,14 +1,14 @@
-//! The token at the front of a text. There is one function for each construct, named as it is, and
-//! none calls itself.
+//! The token at the front of a pattern. There is one function for each construct, named as it is,
+//! and none calls itself.
 
-ghost use Rattle.std.specs.Prelude.{◌≡◌};
+ghost use Rattle.std.specs.Prelude.{◌≡◌, IfOk};
 ghost use Rattle.py_base.specs.Reading.{find};
 ghost use Rattle.re_tree.specs.Characters.{if_flag};
 ghost use Rattle.re_tree.specs.Reading as spec;
 ghost use Rattle.re_tree.specs.Tables.{signs};
 ghost use Rattle.re_tree.specs.Tokens.{anchor_token};
 ghost use Rattle.re_tree.specs.TextView.{test_of};
-ghost use Rattle.re_parse.specs.TokenView.{token_of, Reads};
+ghost use Rattle.re_parse.specs.TokenView.{lexed_of, token_of, Reads};
 
 mod characters;
 mod counts;
@@ -22,7 +22,8 @@ use crate::reading::counts::{brace, sign_count};
 use crate::reading::escapes::escape;
 use crate::reading::openings::opening;
 use crate::reading::sets::bracket;
-use crate::token::Token;
+use crate::token::{Lexed, Token};
+use re_tree::anchors::{AT_BEGINNING, AT_BEGINNING_LINE, AT_END, AT_END_LINE};
 use re_tree::{TextFlags, UnitTest};
 use std::alloc::{AllocError, Global};
 
@@ -44,7 +45,7 @@ fn dot(flags: TextFlags) -> UnitTest
 fn line_anchor(flags: TextFlags, whole: u32, each: u32) -> Token
     ensures { token_of result ≡ anchor_token (if_flag flags.multiline each whole) }
 {
-    Token::Place(if flags.multiline { each } else { whole })
+    Token::Anchor(if flags.multiline { each } else { whole })
 }
 
 // The token that begins with this character.
@@ -54,8 +55,8 @@ fn sign(alloc: Global, flags: TextFlags, begin: usize, c: char, rest: &[char]) -
     match c {
         '\\' => escape(alloc, flags, begin, rest),
         '.' => Ok(Some((Token::Unit(dot(flags)), rest))),
-        '^' => Ok(Some((line_anchor(flags, 0, 1), rest))),
-        '$' => Ok(Some((line_anchor(flags, 5, 6), rest))),
+        '^' => Ok(Some((line_anchor(flags, AT_BEGINNING, AT_BEGINNING_LINE), rest))),
+        '$' => Ok(Some((line_anchor(flags, AT_END, AT_END_LINE), rest))),
         '*' => sign_count(alloc, begin, &[], &[], rest),
         '+' => sign_count(alloc, begin, &['1'], &[], rest),
         '?' => sign_count(alloc, begin, &[], &['1'], rest),
@@ -68,14 +69,21 @@ fn sign(alloc: Global, flags: TextFlags, begin: usize, c: char, rest: &[char]) -
     }
 }
 
-/// The token at the front of a text, whose first character is at the place `begin` of the whole,
-/// and what is left after it. There is none where the text is at its end, or where the grammar has
-/// no token that it begins with.
-pub fn next_token(alloc: Global, flags: TextFlags, begin: usize, text: &[char]) -> Found
-    ensures { Reads (spec.next_token flags begin text.now) result }
+/// The token at the front of what is left of a pattern, whose first character is at the place
+/// `begin` of the whole.
+pub fn next_token(
+    alloc: Global,
+    flags: TextFlags,
+    begin: usize,
+    text: &[char],
+) -> Result<Lexed, AllocError>
+    ensures { IfOk result (λ next. lexed_of next ≡ spec.next_token flags begin text.now) }
 {
     match text {
-        [] => Ok(None),
-        [c, rest @ ..] => sign(alloc, flags, begin, *c, rest),
+        [] => Ok(Lexed::End),
+        [c, rest @ ..] => match sign(alloc, flags, begin, *c, rest)? {
+            None => Ok(Lexed::NoToken),
+            Some((token, after)) => Ok(Lexed::Token(token, after)),
+        },
     }
 }

@@ -1,4 +1,4 @@
-//! The tokens that a text is made of.
+//! The tokens that a pattern is made of.
 
 use crate::number::Number;
 use py_text::PyStr;
@@ -18,14 +18,14 @@ pub enum GroupName {
 pub enum Opening {
     /// A group, with its name if it has one.
     Capturing(Option<PyStr>),
-    /// A plain group.
-    Grouping,
+    /// A group without a number.
+    NonCapturing,
     /// An atomic group.
-    Keeping,
-    /// A lookahead, or, where the second is true, a lookbehind; negative where the first is false.
-    Looking(bool, bool),
+    Atomic,
+    /// A lookahead or, where `behind`, a lookbehind; a negative one where not `positive`.
+    Look { positive: bool, behind: bool },
     /// A conditional.
-    Choosing(GroupName),
+    Conditional(GroupName),
 }
 
 /// A token. A place is that of its first character, in code points.
@@ -33,8 +33,8 @@ pub enum Opening {
 pub enum Token {
     /// One unit that meets the test.
     Unit(UnitTest),
-    /// An anchor, by its number.
-    Place(u32),
+    /// An anchor, by its number in `re_tree::anchors`.
+    Anchor(u32),
     /// A back reference, at a place.
     Reference(usize, GroupName),
     /// A count at a place, with the least and the greatest number.
@@ -45,4 +45,15 @@ pub enum Token {
     Bar,
     /// A `)`.
     Close,
+}
+
+/// What is next in a pattern.
+#[derive(Debug, Drop)]
+pub enum Lexed<'t> {
+    /// A token, and the characters after it.
+    Token(Token, &'t [char]),
+    /// Nothing: there are no more characters.
+    End,
+    /// Characters that no token of the grammar begins with.
+    NoToken,
 }

@@ -12,8 +12,8 @@ use Rattle.re_tree.specs.Widths.{width}
 use Rattle.re_tree.specs.declared.fault.Fault.{Fault}
 use Rattle.re_tree.specs.declared.fault.FaultKind.{FaultKind}
 use Rattle.re_tree.specs.declared.fault.FaultKind.TheVariants.{TooDeep, TooManyGroups, BadName, BadCount, BadReference, NotFixedWidth}
-use Rattle.re_tree.specs.Tokens.{Opening, capturing, grouping, keeping, looking, choosing}
-use Rattle.re_tree.specs.Faults.{is_identifier, only_if, Where, outermost, has_number, has_name, numbers_of, all_numbers, names_at, inside, after, is_closed, deep, at_reference, of_opening, at_opening, is_bad_count, at_count, is_wide, at_close, faults, faults_in_turn, choice_of, choices, all_choices, is_past, choice_faults, is_before, the_first, first_of, all_faults, fault_of}
+use Rattle.re_tree.specs.Tokens.{Opening, capturing, non_capturing, atomic_opening, look_opening, conditional_opening}
+use Rattle.re_tree.specs.Faults.{is_identifier, only_if, Where, outermost, has_number, has_name, numbers_of, all_numbers, names_at, inside, after, is_closed, deep, at_reference, of_opening, at_opening, is_bad_count, at_count, is_wide, at_close, faults, faults_in_turn, conditional_of, conditionals, all_conditionals, is_past, conditional_faults, is_before, the_first, first_of, all_faults, fault_of}
 use Rattle.re_text.specs.Fits.{count_fits, back_fits, text_fits, texts_fit, parens, all_parens, kinds_fit, all_kinds_fit}
 
 front_none : (xs ys : List Fault) → xs ++ ys ≡ [] → xs ≡ []
@@ -68,7 +68,7 @@ count_is_good least (Some most) h =
     let c = ltb-false most least (or_right (nat_lt 4294967294 least || nat_lt 4294967294 most) (nat_lt most least) h) in
     (omega (arith, c), omega (arith, b))
 
-back_is_good : (positive back : Bool) (begin : ℕ) (w : Option ℕ) → at_close begin (looking positive back) w ≡ [] → back_fits back w
+back_is_good : (positive back : Bool) (begin : ℕ) (w : Option ℕ) → at_close begin (look_opening positive back) w ≡ [] → back_fits back w
 back_is_good positive false begin w h = tt
 back_is_good positive true begin None h = let f : ⊥ = cc h in absurd f
 back_is_good positive true begin (Some k) h = omega (arith, ltb-false 4294967295 k (not_if (nat_lt 4294967295 k) begin NotFixedWidth h))
@@ -257,7 +257,7 @@ reference_good (named name) all names later w h c e =
     let k : IsGroup all (find_name w.names name) = found_in all (find_name w.names name) w.closed c h in
     subst (IsGroup all) (sym (ap (λ l. find_name l name) e ∙ kept_name w.names later name k.0)) k
 
-choice_good : (id : GroupName) (all begin number : ℕ) (names later : Names) (w : Where) → of_opening w begin number (choosing id) ≡ [] → choice_faults all (choice_of begin id) ≡ [] → AreNumbers all w.names → names ≡ w.names ++ later → IsGroup all (number_of names id)
+choice_good : (id : GroupName) (all begin number : ℕ) (names later : Names) (w : Where) → of_opening w begin number (conditional_opening id) ≡ [] → conditional_faults all (conditional_of begin id) ≡ [] → AreNumbers all w.names → names ≡ w.names ++ later → IsGroup all (number_of names id)
 choice_good (numbered n) all begin number names later w o f k e =
     let p = not_if (is_past all n) begin BadReference (front_none (only_if (is_past all n) begin BadReference) [] f) in
     let z : (n == 0) ≡ false = or_left (n == 0) (nat_lt all n) p in
@@ -269,15 +269,15 @@ choice_good (named name) all begin number names later w o f k e =
     let g : IsGroup all (find_name w.names name) = named_number all w.names name k h in
     subst (IsGroup all) (sym (ap (λ l. find_name l name) e ∙ kept_name w.names later name g.0)) g
 
-choices_split : (all : ℕ) (xs ys : List (ℕ × ℕ)) → choice_faults all (xs ++ ys) ≡ choice_faults all xs ++ choice_faults all ys
+choices_split : (all : ℕ) (xs ys : List (ℕ × ℕ)) → conditional_faults all (xs ++ ys) ≡ conditional_faults all xs ++ conditional_faults all ys
 choices_split all [] ys = refl
-choices_split all (x ∷ xs) ys = ap (λ l. only_if (is_past all x.1) x.0 BadReference ++ l) (choices_split all xs ys) ∙ sym (append_assoc (only_if (is_past all x.1) x.0 BadReference) (choice_faults all xs) (choice_faults all ys))
+choices_split all (x ∷ xs) ys = ap (λ l. only_if (is_past all x.1) x.0 BadReference ++ l) (choices_split all xs ys) ∙ sym (append_assoc (only_if (is_past all x.1) x.0 BadReference) (conditional_faults all xs) (conditional_faults all ys))
 
-front_choices : (all : ℕ) (xs ys : List (ℕ × ℕ)) → choice_faults all (xs ++ ys) ≡ [] → choice_faults all xs ≡ []
-front_choices all xs ys e = front_none (choice_faults all xs) (choice_faults all ys) (sym (choices_split all xs ys) ∙ e)
+front_choices : (all : ℕ) (xs ys : List (ℕ × ℕ)) → conditional_faults all (xs ++ ys) ≡ [] → conditional_faults all xs ≡ []
+front_choices all xs ys e = front_none (conditional_faults all xs) (conditional_faults all ys) (sym (choices_split all xs ys) ∙ e)
 
-back_choices : (all : ℕ) (xs ys : List (ℕ × ℕ)) → choice_faults all (xs ++ ys) ≡ [] → choice_faults all ys ≡ []
-back_choices all xs ys e = back_none (choice_faults all xs) (choice_faults all ys) (sym (choices_split all xs ys) ∙ e)
+back_choices : (all : ℕ) (xs ys : List (ℕ × ℕ)) → conditional_faults all (xs ++ ys) ≡ [] → conditional_faults all ys ≡ []
+back_choices all xs ys e = back_none (conditional_faults all xs) (conditional_faults all ys) (sym (choices_split all xs ys) ∙ e)
 
 -- inside an opening that begins no name
 deeper_stands : (all g number : ℕ) (w : Where) (o : Opening) → names_at number o ≡ [] → Stood all g w → w.depth < 60 → Stood all g (inside w number o)
@@ -294,13 +294,13 @@ after_stands all g w r h c le few s = record {
 
 -- what is asked of a part
 abbrev Asked : ℕ → ℕ → Where → Names → Names → List Fault → List (ℕ × ℕ) → Names → ℕ → Type 0
-Asked all g w names later found chosen own n = (found ≡ []) × (choice_faults all chosen ≡ []) × (names ≡ w.names ++ (own ++ later)) × (g + n ≤ all) × Stood all g w
+Asked all g w names later found chosen own n = (found ≡ []) × (conditional_faults all chosen ≡ []) × (names ≡ w.names ++ (own ++ later)) × (g + n ≤ all) × Stood all g w
 
 no_name : (w : Names) (x later names : Names) → names ≡ w ++ (x ++ later) → names ≡ (w ++ []) ++ (x ++ later)
 no_name w x later names e = e ∙ ap (λ l. l ++ (x ++ later)) (sym (append-nil w))
 
 mutual
-  piece_good : (r : PlainText) (all g : ℕ) (w : Where) (names later : Names) → IsPiece g r → kinds_fit r → Asked all g w names later (faults w r) (choices r) (names_of r) (captures r) → Good all names g w r
+  piece_good : (r : PlainText) (all g : ℕ) (w : Where) (names later : Names) → IsPiece g r → kinds_fit r → Asked all g w names later (faults w r) (conditionals r) (names_of r) (captures r) → Good all names g w r
   piece_good (unit test) all g w names later h k a = record { fits = k; nested = omega (arith, a.4.depth); few = omega (arith, a.4.few) }
   piece_good (anchor n) all g w names later h k a = record { fits = k; nested = omega (arith, a.4.depth); few = omega (arith, a.4.few) }
   piece_good (reference begin id) all g w names later h k a = record {
@@ -309,23 +309,23 @@ mutual
     few = omega (arith, a.4.few);
   }
   piece_good (conditional begin id met) all g w names later h k a =
-      let o = open_front w begin 0 (choosing id) (faults (inside w 0 (choosing id)) met) a.0 in
-      let m : Good all names g (inside w 0 (choosing id)) met = branch_good met all g (inside w 0 (choosing id)) names later h k
-      (o.2, back_choices all (choice_of begin id) (choices met) a.1, no_name w.names (names_of met) later names a.2, a.3, deeper_stands all g 0 w (choosing id) refl a.4 o.0) in
-      record { fits = (choice_good id all begin 0 names (names_of met ++ later) w o.1 (front_choices all (choice_of begin id) (choices met) a.1) a.4.numbers a.2, m.fits); nested = omega (arith, m.nested); few = m.few }
+      let o = open_front w begin 0 (conditional_opening id) (faults (inside w 0 (conditional_opening id)) met) a.0 in
+      let m : Good all names g (inside w 0 (conditional_opening id)) met = branch_good met all g (inside w 0 (conditional_opening id)) names later h k
+      (o.2, back_choices all (conditional_of begin id) (conditionals met) a.1, no_name w.names (names_of met) later names a.2, a.3, deeper_stands all g 0 w (conditional_opening id) refl a.4 o.0) in
+      record { fits = (choice_good id all begin 0 names (names_of met ++ later) w o.1 (front_choices all (conditional_of begin id) (conditionals met) a.1) a.4.numbers a.2, m.fits); nested = omega (arith, m.nested); few = m.few }
   piece_good (conditional_else begin id met other) all g w names later h k a =
-      let v = inside w 0 (choosing id) in
-      let o = open_front w begin 0 (choosing id) (faults v met ++ faults (after v met) other) a.0 in
-      let c = back_choices all (choice_of begin id) (choices met ++ choices other) a.1 in
-      let t = deeper_stands all g 0 w (choosing id) refl a.4 o.0 in
+      let v = inside w 0 (conditional_opening id) in
+      let o = open_front w begin 0 (conditional_opening id) (faults v met ++ faults (after v met) other) a.0 in
+      let c = back_choices all (conditional_of begin id) (conditionals met ++ conditionals other) a.1 in
+      let t = deeper_stands all g 0 w (conditional_opening id) refl a.4 o.0 in
       let e1 : names ≡ w.names ++ (names_of met ++ (names_of other ++ later)) = a.2 ∙ simp append_assoc in
       let e2 : names ≡ ((w.names ++ []) ++ names_of met) ++ (names_of other ++ later) = no_name w.names (names_of met) (names_of other ++ later) names e1 ∙ simp append_assoc in
       let m : Good all names g v met = branch_good met all g v names (names_of other ++ later) h.0 k.0
-      (front_none (faults v met) (faults (after v met) other) o.2, front_choices all (choices met) (choices other) c, no_name w.names (names_of met) (names_of other ++ later) names e1, omega (arith, a.3), t) in
+      (front_none (faults v met) (faults (after v met) other) o.2, front_choices all (conditionals met) (conditionals other) c, no_name w.names (names_of met) (names_of other ++ later) names e1, omega (arith, a.3), t) in
       let j : Stood all (g + captures met) (after v met) = after_stands all g v met (branch_numbers met g h.0) (branch_closed met g h.0) (omega (arith, a.3)) m.few t in
       let n : Good all names (g + captures met) (after v met) other = branch_good other all (g + captures met) (after v met) names later h.1 k.1
-      (back_none (faults v met) (faults (after v met) other) o.2, back_choices all (choices met) (choices other) c, e2, omega (arith, a.3), j) in
-      record { fits = (choice_good id all begin 0 names ((names_of met ++ names_of other) ++ later) w o.1 (front_choices all (choice_of begin id) (choices met ++ choices other) a.1) a.4.numbers a.2, m.fits, n.fits); nested = omega (arith, m.nested, n.nested); few = omega (arith, n.few) }
+      (back_none (faults v met) (faults (after v met) other) o.2, back_choices all (conditionals met) (conditionals other) c, e2, omega (arith, a.3), j) in
+      record { fits = (choice_good id all begin 0 names ((names_of met ++ names_of other) ++ later) w o.1 (front_choices all (conditional_of begin id) (conditionals met ++ conditionals other) a.1) a.4.numbers a.2, m.fits, n.fits); nested = omega (arith, m.nested, n.nested); few = omega (arith, n.few) }
   piece_good (counted begin least most mode body) all g w names later h k a =
       let m : Good all names g w body = piece_good body all g w names later h.1 k (front_none (faults w body) (at_count begin least most) a.0, a.1, a.2, a.3, a.4) in
       record { fits = (count_is_good least most (not_if (is_bad_count least most) begin BadCount (back_none (faults w body) (at_count begin least most) a.0)), m.fits); nested = m.nested; few = m.few }
@@ -343,53 +343,53 @@ mutual
       let m : Good all names (g + 1) v body = regex_good body all (g + 1) v names later h.1 k (o.2, a.1, e1, omega (arith, a.3), t) in
       record { fits = ((omega (arith, h.0), omega (arith, h.0, a.3)), m.fits); nested = omega (arith, m.nested); few = omega (arith, m.few) }
   piece_good (plain begin body) all g w names later h k a =
-      let o = open_front w begin 0 grouping (faults (inside w 0 grouping) body) a.0 in
-      let m : Good all names g (inside w 0 grouping) body = regex_good body all g (inside w 0 grouping) names later h k (o.2, a.1, no_name w.names (names_of body) later names a.2, a.3, deeper_stands all g 0 w grouping refl a.4 o.0) in
+      let o = open_front w begin 0 non_capturing (faults (inside w 0 non_capturing) body) a.0 in
+      let m : Good all names g (inside w 0 non_capturing) body = regex_good body all g (inside w 0 non_capturing) names later h k (o.2, a.1, no_name w.names (names_of body) later names a.2, a.3, deeper_stands all g 0 w non_capturing refl a.4 o.0) in
       record { fits = m.fits; nested = omega (arith, m.nested); few = m.few }
   piece_good (atomic_text begin body) all g w names later h k a =
-      let o = open_front w begin 0 keeping (faults (inside w 0 keeping) body) a.0 in
-      let m : Good all names g (inside w 0 keeping) body = regex_good body all g (inside w 0 keeping) names later h k (o.2, a.1, no_name w.names (names_of body) later names a.2, a.3, deeper_stands all g 0 w keeping refl a.4 o.0) in
+      let o = open_front w begin 0 atomic_opening (faults (inside w 0 atomic_opening) body) a.0 in
+      let m : Good all names g (inside w 0 atomic_opening) body = regex_good body all g (inside w 0 atomic_opening) names later h k (o.2, a.1, no_name w.names (names_of body) later names a.2, a.3, deeper_stands all g 0 w atomic_opening refl a.4 o.0) in
       record { fits = m.fits; nested = omega (arith, m.nested); few = m.few }
   piece_good (look_text begin positive back body) all g w names later h k a =
-      let v = inside w 0 (looking positive back) in
-      let c = at_close begin (looking positive back) (width body) in
-      let o = open_front w begin 0 (looking positive back) (faults v body ++ c) a.0 in
+      let v = inside w 0 (look_opening positive back) in
+      let c = at_close begin (look_opening positive back) (width body) in
+      let o = open_front w begin 0 (look_opening positive back) (faults v body ++ c) a.0 in
       let i = back_is_good positive back begin (width body) (back_none (faults v body) c o.2) in
-      let m : Good all names g v body = regex_good body all g v names later h k (front_none (faults v body) c o.2, a.1, no_name w.names (names_of body) later names a.2, a.3, deeper_stands all g 0 w (looking positive back) refl a.4 o.0) in
+      let m : Good all names g v body = regex_good body all g v names later h k (front_none (faults v body) c o.2, a.1, no_name w.names (names_of body) later names a.2, a.3, deeper_stands all g 0 w (look_opening positive back) refl a.4 o.0) in
       record { fits = (i, m.fits); nested = omega (arith, m.nested); few = m.few }
   piece_good (sequence parts) all g w names later h k a = absurd h
   piece_good (alternation branches) all g w names later h k a = absurd h
 
-  pieces_good : (rs : PlainTexts) (all g : ℕ) (w : Where) (names later : Names) → ArePieces g rs → all_kinds_fit rs → Asked all g w names later (faults_in_turn w rs) (all_choices rs) (all_names rs) (all_captures rs) → AllGood all names g w rs
+  pieces_good : (rs : PlainTexts) (all g : ℕ) (w : Where) (names later : Names) → ArePieces g rs → all_kinds_fit rs → Asked all g w names later (faults_in_turn w rs) (all_conditionals rs) (all_names rs) (all_captures rs) → AllGood all names g w rs
   pieces_good done all g w names later h k a = record { fits = tt; nested = omega (arith, a.4.depth); few = omega (arith, a.4.few) }
   pieces_good (r also rs) all g w names later h k a =
       let e1 : names ≡ w.names ++ (names_of r ++ (all_names rs ++ later)) = a.2 ∙ simp append_assoc in
       let e2 : names ≡ (w.names ++ names_of r) ++ (all_names rs ++ later) = a.2 ∙ simp append_assoc in
       let m : Good all names g w r = piece_good r all g w names (all_names rs ++ later) h.0 k.0
-      (front_none (faults w r) (faults_in_turn (after w r) rs) a.0, front_choices all (choices r) (all_choices rs) a.1, e1, omega (arith, a.3), a.4) in
+      (front_none (faults w r) (faults_in_turn (after w r) rs) a.0, front_choices all (conditionals r) (all_conditionals rs) a.1, e1, omega (arith, a.3), a.4) in
       let t : Stood all (g + captures r) (after w r) = after_stands all g w r (piece_numbers r g h.0) (piece_closed r g h.0) (omega (arith, a.3)) m.few a.4 in
       let n : AllGood all names (g + captures r) (after w r) rs = pieces_good rs all (g + captures r) (after w r) names later h.1 k.1
-      (back_none (faults w r) (faults_in_turn (after w r) rs) a.0, back_choices all (choices r) (all_choices rs) a.1, e2, omega (arith, a.3), t) in
+      (back_none (faults w r) (faults_in_turn (after w r) rs) a.0, back_choices all (conditionals r) (all_conditionals rs) a.1, e2, omega (arith, a.3), t) in
       record { fits = (m.fits, n.fits); nested = omega (arith, m.nested, n.nested); few = omega (arith, n.few) }
 
-  branch_good : (r : PlainText) (all g : ℕ) (w : Where) (names later : Names) → IsBranch g r → kinds_fit r → Asked all g w names later (faults w r) (choices r) (names_of r) (captures r) → Good all names g w r
+  branch_good : (r : PlainText) (all g : ℕ) (w : Where) (names later : Names) → IsBranch g r → kinds_fit r → Asked all g w names later (faults w r) (conditionals r) (names_of r) (captures r) → Good all names g w r
   branch_good (sequence parts) all g w names later h k a =
       let m : AllGood all names g w parts = pieces_good parts all g w names later h k a in record { fits = m.fits; nested = m.nested; few = m.few }
   branch_good _ all g w names later h k a = absurd h
 
-  branches_good : (rs : PlainTexts) (all g : ℕ) (w : Where) (names later : Names) → AreBranches g rs → all_kinds_fit rs → Asked all g w names later (faults_in_turn w rs) (all_choices rs) (all_names rs) (all_captures rs) → AllGood all names g w rs
+  branches_good : (rs : PlainTexts) (all g : ℕ) (w : Where) (names later : Names) → AreBranches g rs → all_kinds_fit rs → Asked all g w names later (faults_in_turn w rs) (all_conditionals rs) (all_names rs) (all_captures rs) → AllGood all names g w rs
   branches_good done all g w names later h k a = record { fits = tt; nested = omega (arith, a.4.depth); few = omega (arith, a.4.few) }
   branches_good (r also rs) all g w names later h k a =
       let e1 : names ≡ w.names ++ (names_of r ++ (all_names rs ++ later)) = a.2 ∙ simp append_assoc in
       let e2 : names ≡ (w.names ++ names_of r) ++ (all_names rs ++ later) = a.2 ∙ simp append_assoc in
       let m : Good all names g w r = branch_good r all g w names (all_names rs ++ later) h.0 k.0
-      (front_none (faults w r) (faults_in_turn (after w r) rs) a.0, front_choices all (choices r) (all_choices rs) a.1, e1, omega (arith, a.3), a.4) in
+      (front_none (faults w r) (faults_in_turn (after w r) rs) a.0, front_choices all (conditionals r) (all_conditionals rs) a.1, e1, omega (arith, a.3), a.4) in
       let t : Stood all (g + captures r) (after w r) = after_stands all g w r (branch_numbers r g h.0) (branch_closed r g h.0) (omega (arith, a.3)) m.few a.4 in
       let n : AllGood all names (g + captures r) (after w r) rs = branches_good rs all (g + captures r) (after w r) names later h.1 k.1
-      (back_none (faults w r) (faults_in_turn (after w r) rs) a.0, back_choices all (choices r) (all_choices rs) a.1, e2, omega (arith, a.3), t) in
+      (back_none (faults w r) (faults_in_turn (after w r) rs) a.0, back_choices all (conditionals r) (all_conditionals rs) a.1, e2, omega (arith, a.3), t) in
       record { fits = (m.fits, n.fits); nested = omega (arith, m.nested, n.nested); few = omega (arith, n.few) }
 
-  regex_good : (r : PlainText) (all g : ℕ) (w : Where) (names later : Names) → IsRegex g r → kinds_fit r → Asked all g w names later (faults w r) (choices r) (names_of r) (captures r) → Good all names g w r
+  regex_good : (r : PlainText) (all g : ℕ) (w : Where) (names later : Names) → IsRegex g r → kinds_fit r → Asked all g w names later (faults w r) (conditionals r) (names_of r) (captures r) → Good all names g w r
   regex_good (sequence parts) all g w names later h k a =
       let m : AllGood all names g w parts = pieces_good parts all g w names later h k a in record { fits = m.fits; nested = m.nested; few = m.few }
   regex_good (alternation (r also q also rs)) all g w names later h k a =
@@ -401,8 +401,8 @@ pub good : (r : PlainText) → IsRegex 0 r → kinds_fit r → fault_of r ≡ No
 good r h k f =
     let n = none_first (all_faults r) f in
     regex_good r (captures r) 0 outermost (names_of r) [] h k (
-      front_none (faults outermost r) (choice_faults (captures r) (choices r)) n,
-      back_none (faults outermost r) (choice_faults (captures r) (choices r)) n,
+      front_none (faults outermost r) (conditional_faults (captures r) (conditionals r)) n,
+      back_none (faults outermost r) (conditional_faults (captures r) (conditionals r)) n,
       sym (append-nil (names_of r)),
       omega arith,
       record { numbers = tt; ended = tt; depth = omega arith; few = omega arith },

@@ -1,17 +1,19 @@
--- Which texts have a code: those without a fault of a count, a name, a group or a
+-- Which patterns have a code: those without a fault of a count, a name, a group or a
 -- width.
 use Rattle.std.specs.Prelude.{◌≡◌, ℕ, ◌+◌, ◌≤◌, ◌<◌, Bool, true, false, Option, Some, None, max, IsTrue, List}
+use Rattle.sre_code.specs.declared.opcodes.TheConstants.{MAXREPEAT}
 use Rattle.sre_code.specs.Anchors.{is_anchor}
 use Rattle.sre_code.specs.Spelling.{IsGroup, items_fit}
 use Rattle.re_tree.specs.declared.unit.UnitItem.{UnitItem}
+use Rattle.re_tree.specs.declared.limits.TheConstants.{MAX_WIDTH}
 use Rattle.re_tree.specs.PlainText.{PlainTest, dot, dot_all, literal, set, PlainText, PlainTexts, unit, anchor, reference, conditional, conditional_else, sequence, alternation, counted, capture, plain, atomic_text, look_text, done, ◌also◌, Names, number_of}
 use Rattle.re_text.specs.Trees.{set_items}
 use Rattle.re_tree.specs.Widths.{width}
 
--- a count is below 4294967295, and its least number is at most its greatest
+-- a count is below MAXREPEAT, and its least number is at most its greatest
 abbrev pub count_fits : ℕ → Option ℕ → Type 0
-count_fits least None = least < 4294967295
-count_fits least (Some most) = (least ≤ most) × (most < 4294967295)
+count_fits least None = least < MAXREPEAT
+count_fits least (Some most) = (least ≤ most) × (most < MAXREPEAT)
 
 abbrev pub test_fits : PlainTest → Type 0
 test_fits dot = Unit {0}
@@ -23,7 +25,7 @@ test_fits (set negated items) = items_fit (set_items items)
 abbrev pub back_fits : Bool → Option ℕ → Type 0
 back_fits false width = Unit {0}
 back_fits true None = ⊥
-back_fits true (Some k) = k < 4294967296
+back_fits true (Some k) = k ≤ MAX_WIDTH
 
 abbrev mutual
   pub text_fits : Names → ℕ → PlainText → Type 0
@@ -49,7 +51,7 @@ abbrev mutual
   texts_fit names groups done = Unit {0}
   texts_fit names groups (r also rs) = text_fits names groups r × texts_fit names groups rs
 
--- how many bodies are inside one another in the tree of a text
+-- how many bodies are inside one another in the tree of a pattern
 abbrev mutual
   pub text_depth : PlainText → ℕ
   text_depth (conditional begin id met) = text_depth met + 1
@@ -85,7 +87,7 @@ abbrev mutual
   all_parens done = 0
   all_parens (r also rs) = max (parens r) (all_parens rs)
 
--- the anchors and the sets of a text are those that the grammar makes
+-- the anchors and the sets of a pattern are those that the grammar makes
 abbrev mutual
   pub kinds_fit : PlainText → Type 0
   kinds_fit (unit test) = test_fits test

@@ -1,4 +1,4 @@
--- The outcomes of a text at a place, in their order.
+-- The outcomes of a pattern at a place, in their order.
 use Rattle.std.specs.Prelude.{ℕ, zero, suc, ◌+◌, ◌-◌, ◌==◌, nat_eq, nat_lt, nat_le, not, ◌&&◌, Bool, true, false, List, [], ◌∷◌, ◌++◌, length, drop, slice_range, Option, Some, None, is_some, if◌then◌else◌}
 use Rattle.std.specs.List.{starts_with, list_any}
 use Rattle.py_base.specs.Chars.Categories.{in_category}

@@ -1,5 +1,5 @@
 -- Worked rows, which compute.
-use Rattle.std.specs.Prelude.{◌≡◌, refl, ℕ, true, false, List, [], ◌∷◌, codes, Option, Some, None}
+use Rattle.std.specs.Prelude.{◌≡◌, refl, ℕ, ◌+◌, true, false, List, [], ◌∷◌, codes, Option, Some, None}
 use Rattle.re_tree.specs.declared.tree.CountMode.TheVariants.{Greedy, Lazy, Possessive}
 use Rattle.re_tree.specs.PlainText.{literal, dot, PlainText, unit, anchor, reference, numbered, sequence, alternation, counted, capture, plain, look_text, conditional, done, ◌also◌}
 use Rattle.re_text.specs.Outcomes.{outcomes}
@@ -7,6 +7,9 @@ use Rattle.re_tree.specs.Widths.{width}
 use Rattle.re_text.specs.Laws.{passes}
 use Rattle.re_text.specs.Trees.{tree_of_text}
 use Rattle.sre_match.specs.Paths.{paths}
+use Rattle.re_tree.specs.declared.anchors.TheConstants as here
+use Rattle.re_tree.specs.declared.limits.TheConstants as limit
+use Rattle.sre_code.specs.declared.opcodes.TheConstants as code
 
 abbrev a : PlainText
 a = unit (literal 97)
@@ -63,3 +66,19 @@ width_row = refl
 -- the tree's attempts pass alike
 pub tree_row : passes (paths (tree_of_text [] a_or_ab) (codes "ab") 0 []) ≡ outcomes 4 [] a_or_ab (codes "ab") 0 []
 tree_row = refl
+
+-- the numbers of anchors and the limits of a pattern are those of a code
+pub anchors_row :
+    (here.AT_BEGINNING ∷ here.AT_BEGINNING_LINE ∷ here.AT_BOUNDARY
+      ∷ here.AT_NON_BOUNDARY ∷ here.AT_END ∷ here.AT_END_LINE ∷ here.AT_END_STRING
+      ∷ here.AT_UNI_BOUNDARY ∷ here.AT_UNI_NON_BOUNDARY ∷ [])
+    ≡ (code.AT_BEGINNING ∷ code.AT_BEGINNING_LINE ∷ code.AT_BOUNDARY
+      ∷ code.AT_NON_BOUNDARY ∷ code.AT_END ∷ code.AT_END_LINE ∷ code.AT_END_STRING
+      ∷ code.AT_UNI_BOUNDARY ∷ code.AT_UNI_NON_BOUNDARY ∷ [])
+anchors_row = refl
+
+pub groups_row : limit.MAX_GROUPS ≡ code.MAXGROUPS
+groups_row = refl
+
+pub counts_row : limit.MAX_COUNT + 1 ≡ code.MAXREPEAT
+counts_row = refl

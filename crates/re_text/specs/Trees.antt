@@ -1,5 +1,6 @@
--- The tree that a text is compiled to.
+-- The tree that a pattern is compiled to.
 use Rattle.std.specs.Prelude.{ℕ, Bool, true, false, List, [], ◌∷◌, Option, Some, None}
+use Rattle.sre_code.specs.declared.opcodes.TheConstants.{MAXREPEAT}
 use Rattle.sre_code.specs.declared.set.SetItem.{SetItem}
 use Rattle.sre_code.specs.declared.set.SetItem.TheVariants.{Literal, Span, Category}
 use Rattle.sre_code.specs.declared.tree.RepeatKind.{RepeatKind}
@@ -32,9 +33,9 @@ kind_of_mode GreedyCount = Greedy
 kind_of_mode LazyCount = Lazy
 kind_of_mode PossessiveCount = Possessive
 
--- the greatest count 4294967295 means that there is none
+-- MAXREPEAT as the greatest count means that there is none
 abbrev pub greatest : Option ℕ → ℕ
-greatest None = 4294967295
+greatest None = MAXREPEAT
 greatest (Some most) = most
 
 -- how far back a lookaround begins
@@ -76,7 +77,7 @@ abbrev mutual
   tree_of_parts names done = nothing
   tree_of_parts names (r also rs) = join (tree_of_text names r) (tree_of_parts names rs)
 
-  -- no text has no branch
+  -- no pattern has no branch
   pub trees_of_branches : Names → PlainTexts → PlainTrees
   trees_of_branches names done = only (fail then nothing)
   trees_of_branches names (r also done) = only (tree_of_text names r)

@@ -1,4 +1,4 @@
-//! Laws of texts and their outcomes.
+//! Laws of patterns and their outcomes.
 
 ghost use Rattle.re_text.specs.Laws.{WidthsAreKept, TheTreeMeansTheText, EveryTextHasACode};
 
@@ -7,13 +7,13 @@ pub fn widths_are_kept()
     ensures { WidthsAreKept }
 {}
 
-/// The attempts of a text's tree that pass have, in order, the ends and captures of the text's own
-/// outcomes: at every place of every subject, and with whatever captures before.
+/// The attempts of a pattern's tree that pass have, in order, the ends and captures of the pattern's
+/// own outcomes: at every place of every subject, and with whatever captures before.
 pub fn the_tree_means_the_text()
     ensures { TheTreeMeansTheText }
 {}
 
-/// Each text that reads as a tree without a fault has a code, and this is it.
+/// Each pattern that reads as a tree without a fault has a code, and this is it.
 pub fn every_text_has_a_code()
     ensures { EveryTextHasACode }
 {}

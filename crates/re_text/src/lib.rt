@@ -1,4 +1,4 @@
-//! What the text of a regular expression means, and the tree of a code that means the same.
+//! What a pattern means, and the tree of a code that means the same.
 #![tactic(auto)]
 
 pub mod laws;

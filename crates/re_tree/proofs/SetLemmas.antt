@@ -8,8 +8,8 @@ use Rattle.re_tree.specs.declared.unit.UnitItem.{UnitItem}
 use Rattle.re_tree.specs.declared.unit.UnitItem.TheVariants.{Literal, Span, Category}
 use Rattle.py_base.specs.Reading.{find}
 use Rattle.re_tree.specs.Tables.{Letter, is_character_of, digits_follow, categories, anchors, letters}
-use Rattle.re_tree.specs.Characters.{if_flag, first_is, is_punctuation}
-use Rattle.re_tree.specs.Sets.{AreItems, Items, put_item, item_then, items_at, WritesMember, itself, bracket, dash, backspace, punctuation, lettered, hexadecimal, is_span, WritesItem, Member, letter_member, escaped_member, member_at, Item, close_span, drop_one, span_or, class_of, class_at, or_item, item_at}
+use Rattle.re_tree.specs.Characters.{if_flag, first_is, is_ascii_non_alphanumeric}
+use Rattle.re_tree.specs.Sets.{AreItems, Items, put_item, item_then, items_at, WritesMember, itself, bracket, dash, backspace, escaped_itself, lettered, hexadecimal, is_span, WritesItem, Member, letter_member, escaped_member, member_at, Item, close_span, drop_one, span_or, class_of, class_at, or_item, item_at}
 use Rattle.re_tree.proofs.HexLemmas.{hex_read, HexWritten, hex_written}
 use Rattle.re_tree.proofs.TableLemmas.{absent}
 use Rattle.re_tree.proofs.BoundLemmas.{cond_true, cond_false}
@@ -29,8 +29,8 @@ member_read first c written rest (bracket f i e) =
 member_read first c written rest (dash f i e) =
     ap (λ x. member_at first (x ++ rest)) e ∙ cond_true (first || first_is (λ k. k == 93) rest) (Some (45, rest)) None f ∙ ap (λ k. Some (k, rest)) (sym i)
 member_read first c written rest (backspace i e) = ap (λ x. member_at first (x ++ rest)) e ∙ ap (λ k. Some (k, rest)) (sym i)
-member_read first c written rest (punctuation m e) =
-    ap (λ x. member_at first (x ++ rest)) e ∙ ap (λ o. letter_member o c rest) (absent is_punctuation letters c m refl) ∙ cond_true (is_punctuation c) (Some (c, rest)) None m
+member_read first c written rest (escaped_itself m e) =
+    ap (λ x. member_at first (x ++ rest)) e ∙ ap (λ o. letter_member o c rest) (absent is_ascii_non_alphanumeric letters c m refl) ∙ cond_true (is_ascii_non_alphanumeric c) (Some (c, rest)) None m
 member_read first c written rest (hexadecimal l n ds f m v g e) =
     ap (λ x. member_at first (x ++ rest)) e ∙ ap (λ o. letter_member o l (ds ++ rest)) f ∙ hex_read ds n 0 c rest m v g
 member_read first c written rest (lettered l f e) = ap (λ x. member_at first (x ++ rest)) e ∙ ap (λ o. letter_member o l rest) f
@@ -44,7 +44,7 @@ no_class ascii first c written (l ∷ cs) (bracket f i e) = ap (λ x. class_at a
 no_class ascii first c written [] (dash f i e) = ap (λ x. class_at ascii (x ++ [])) e
 no_class ascii first c written (l ∷ cs) (dash f i e) = ap (λ x. class_at ascii (x ++ l ∷ cs)) e
 no_class ascii first c written rest (backspace i e) = ap (λ x. class_at ascii (x ++ rest)) e
-no_class ascii first c written rest (punctuation m e) = ap (λ x. class_at ascii (x ++ rest)) e ∙ ap (λ o. class_of ascii o rest) (absent is_punctuation letters c m refl)
+no_class ascii first c written rest (escaped_itself m e) = ap (λ x. class_at ascii (x ++ rest)) e ∙ ap (λ o. class_of ascii o rest) (absent is_ascii_non_alphanumeric letters c m refl)
 no_class ascii first c written rest (hexadecimal l n ds f m v g e) = ap (λ x. class_at ascii (x ++ rest)) e ∙ ap (λ o. class_of ascii o (ds ++ rest)) f
 no_class ascii first c written rest (lettered l f e) = ap (λ x. class_at ascii (x ++ rest)) e ∙ ap (λ o. class_of ascii o rest) f
 
@@ -77,7 +77,7 @@ member_heads first c written rest (itself a b d e) = record { head = c; tail = [
 member_heads first c written rest (bracket f i e) = record { head = 93; tail = []; is = e; goes = ap not f }
 member_heads first c written rest (dash f i e) = record { head = 45; tail = []; is = e; goes = refl }
 member_heads first c written rest (backspace i e) = record { head = 92; tail = 98 ∷ []; is = e; goes = refl }
-member_heads first c written rest (punctuation m e) = record { head = 92; tail = c ∷ []; is = e; goes = refl }
+member_heads first c written rest (escaped_itself m e) = record { head = 92; tail = c ∷ []; is = e; goes = refl }
 member_heads first c written rest (hexadecimal l n ds f m v g e) = record { head = 92; tail = l ∷ ds; is = e; goes = refl }
 member_heads first c written rest (lettered l f e) = record { head = 92; tail = l ∷ []; is = e; goes = refl }
 
@@ -130,8 +130,8 @@ member_choice false x y z e f g = g refl e
 
 letter_written : (first : Bool) (l : ℕ) (cs : List ℕ) (c : ℕ) (rest : List ℕ) (o : Option Letter) → find letters l ≡ o → letter_member o l cs ≡ Some (c, rest) → MemberWritten first (92 ∷ l ∷ cs) c rest
 letter_written first l cs c rest None f e =
-    member_choice (is_punctuation l) (Some (l, cs)) None (Some (c, rest)) e
-    (λ m g. given_member first (92 ∷ l ∷ cs) c l rest cs g (record { written = 92 ∷ l ∷ []; is = refl; writes = punctuation m refl }))
+    member_choice (is_ascii_non_alphanumeric l) (Some (l, cs)) None (Some (c, rest)) e
+    (λ m g. given_member first (92 ∷ l ∷ cs) c l rest cs g (record { written = 92 ∷ l ∷ []; is = refl; writes = escaped_itself m refl }))
     (λ m g. no_member c rest g)
 letter_written first l cs c rest (Some (is_character_of d)) f e = given_member first (92 ∷ l ∷ cs) c d rest cs e (record { written = 92 ∷ l ∷ []; is = refl; writes = lettered l f refl })
 letter_written first l cs c rest (Some (digits_follow n)) f e =

@@ -2,7 +2,7 @@
 use Rattle.std.proofs.Common.{◌≡◌, refl, sym, ◌∙◌, ap, subst, ℕ, zero, suc, ◌+◌, Bool, true, false, List, [], ◌∷◌, ◌++◌, append_assoc, arith}
 use Rattle.std.specs.Prelude.{Option, Some, None}
 use Rattle.re_tree.specs.PlainText.{PlainText, PlainTexts, unit, anchor, reference, conditional, conditional_else, sequence, alternation, counted, capture, plain, atomic_text, look_text, done, ◌also◌, captures, all_captures}
-use Rattle.re_tree.specs.Tokens.{Opening, capturing, grouping, keeping, looking, choosing, Token, unit_token, anchor_token, reference_token, count_token, open_token, bar, close, tokens_of, tokens_in_turn, tokens_between}
+use Rattle.re_tree.specs.Tokens.{Opening, capturing, non_capturing, atomic_opening, look_opening, conditional_opening, Token, unit_token, anchor_token, reference_token, count_token, open_token, bar, close, tokens_of, tokens_in_turn, tokens_between}
 use Rattle.re_tree.specs.Grammar.{is_countable, IsRegex, IsBranch, IsPiece, ArePieces, AreBranches}
 use Rattle.re_tree.specs.Machine.{snoc, Frame, frame, State, state, groups_begun, put_front, one_if, count_last, regex_of, part_of, counted_state, closed_state, close_frame, step, run, run_on, finish, tree_of_tokens}
 
@@ -78,14 +78,14 @@ mutual
   piece_runs (anchor k) g outer bs ps x h = from_groups g (g + 0) outer bs (snoc ps (anchor k)) x (omega arith)
   piece_runs (reference begin id) g outer bs ps x h = from_groups g (g + 0) outer bs (snoc ps (reference begin id)) x (omega arith)
   piece_runs (conditional begin id met) g outer bs ps x h =
-      let f : Frame = frame begin (choosing id) (g + 1) bs ps in
+      let f : Frame = frame begin (conditional_opening id) (g + 1) bs ps in
       let m : Pieces (g + 0) (f ∷ outer) done met (close ∷ x) = branch_runs met (g + 0) (f ∷ outer) done (close ∷ x) (subst (λ n. IsBranch n met) (omega arith) h) in
       ap (run (state (g + 0) (f ∷ outer) done done)) (append_assoc (tokens_of met) (close ∷ []) x)
       ∙ m.runs
       ∙ ap (λ q. run (state (g + 0 + captures met) outer bs (snoc ps (conditional begin id q))) x) m.whole
       ∙ from_groups (g + 0 + captures met) (g + captures met) outer bs (snoc ps (conditional begin id met)) x (omega arith)
   piece_runs (conditional_else begin id met other) g outer bs ps x h =
-      let f : Frame = frame begin (choosing id) (g + 1) bs ps in
+      let f : Frame = frame begin (conditional_opening id) (g + 1) bs ps in
       let m : Pieces (g + 0) (f ∷ outer) done met (bar ∷ (tokens_of other ++ close ∷ x)) =
       branch_runs met (g + 0) (f ∷ outer) done (bar ∷ (tokens_of other ++ close ∷ x)) (subst (λ n. IsBranch n met) (omega arith) h.0) in
       let k : Pieces (g + 0 + captures met) (f ∷ outer) (met also done) other (close ∷ x) =
@@ -105,16 +105,16 @@ mutual
       (regex_runs body (g + 1) (frame begin (capturing name) (g + 1) bs ps ∷ outer) (close ∷ x) h.1)
       (λ cs qs e. λ i. Some (capture begin (sym h.0 i) name (e i))) (omega arith)
   piece_runs (plain begin body) g outer bs ps x h =
-      inside_group g outer bs ps begin grouping body (plain begin body) x (g + captures body)
-      (regex_runs body (g + 0) (frame begin grouping (g + 1) bs ps ∷ outer) (close ∷ x) (subst (λ n. IsRegex n body) (omega arith) h))
+      inside_group g outer bs ps begin non_capturing body (plain begin body) x (g + captures body)
+      (regex_runs body (g + 0) (frame begin non_capturing (g + 1) bs ps ∷ outer) (close ∷ x) (subst (λ n. IsRegex n body) (omega arith) h))
       (λ cs qs e. λ i. Some (plain begin (e i))) (omega arith)
   piece_runs (atomic_text begin body) g outer bs ps x h =
-      inside_group g outer bs ps begin keeping body (atomic_text begin body) x (g + captures body)
-      (regex_runs body (g + 0) (frame begin keeping (g + 1) bs ps ∷ outer) (close ∷ x) (subst (λ n. IsRegex n body) (omega arith) h))
+      inside_group g outer bs ps begin atomic_opening body (atomic_text begin body) x (g + captures body)
+      (regex_runs body (g + 0) (frame begin atomic_opening (g + 1) bs ps ∷ outer) (close ∷ x) (subst (λ n. IsRegex n body) (omega arith) h))
       (λ cs qs e. λ i. Some (atomic_text begin (e i))) (omega arith)
   piece_runs (look_text begin positive back body) g outer bs ps x h =
-      inside_group g outer bs ps begin (looking positive back) body (look_text begin positive back body) x (g + captures body)
-      (regex_runs body (g + 0) (frame begin (looking positive back) (g + 1) bs ps ∷ outer) (close ∷ x) (subst (λ n. IsRegex n body) (omega arith) h))
+      inside_group g outer bs ps begin (look_opening positive back) body (look_text begin positive back body) x (g + captures body)
+      (regex_runs body (g + 0) (frame begin (look_opening positive back) (g + 1) bs ps ∷ outer) (close ∷ x) (subst (λ n. IsRegex n body) (omega arith) h))
       (λ cs qs e. λ i. Some (look_text begin positive back (e i))) (omega arith)
   piece_runs (sequence parts) g outer bs ps x h = absurd h
   piece_runs (alternation branches) g outer bs ps x h = absurd h

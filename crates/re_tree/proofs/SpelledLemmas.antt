@@ -2,7 +2,7 @@
 use Rattle.std.proofs.Common.{◌≡◌, refl, sym, ◌∙◌, ap, subst, ℕ, zero, suc, ◌+◌, Bool, true, false, List, [], ◌∷◌, ◌++◌, append_assoc, add_assoc, zero-add, arith}
 use Rattle.std.specs.Prelude.{Option, Some, None}
 use Rattle.re_tree.specs.PlainText.{PlainText, PlainTexts, unit, anchor, reference, conditional, conditional_else, sequence, alternation, counted, capture, plain, atomic_text, look_text, done, ◌also◌, captures, all_captures}
-use Rattle.re_tree.specs.Tokens.{Opening, capturing, grouping, keeping, looking, choosing, Token, unit_token, anchor_token, reference_token, count_token, open_token, bar, close, tokens_of, tokens_in_turn, tokens_between}
+use Rattle.re_tree.specs.Tokens.{Opening, capturing, non_capturing, atomic_opening, look_opening, conditional_opening, Token, unit_token, anchor_token, reference_token, count_token, open_token, bar, close, tokens_of, tokens_in_turn, tokens_between}
 use Rattle.re_tree.specs.Grammar.{is_countable, IsRegex, IsBranch, IsPiece, ArePieces, AreBranches}
 use Rattle.re_tree.specs.Machine.{snoc, Frame, frame, State, state, groups_begun, put_front, one_if, count_last, regex_of, part_of, counted_state, closed_state, close_frame, step, step_on, run, run_on, finish, tree_of_tokens}
 
@@ -102,26 +102,26 @@ part_is : (o : Opening) (g begin number : ℕ) (bs ps : PlainTexts) (r : PlainTe
 part_is (capturing name) g begin number bs ps r h k e f =
     same_part g (capturing name) begin bs ps (capture begin number name (regex_of bs ps)) r f
     (record { tokens = wrapped begin (capturing name) bs ps; shape = (e, regex_shape bs ps (g + 1) h k); counts = omega (arith, regex_captures bs ps) })
-part_is grouping g begin number bs ps r h k e f =
-    same_part g grouping begin bs ps (plain begin (regex_of bs ps)) r f
-    (record { tokens = wrapped begin grouping bs ps; shape = subst (λ n. IsRegex n (regex_of bs ps)) (omega arith) (regex_shape bs ps (g + 0) h k); counts = omega (arith, regex_captures bs ps) })
-part_is keeping g begin number bs ps r h k e f =
-    same_part g keeping begin bs ps (atomic_text begin (regex_of bs ps)) r f
-    (record { tokens = wrapped begin keeping bs ps; shape = subst (λ n. IsRegex n (regex_of bs ps)) (omega arith) (regex_shape bs ps (g + 0) h k); counts = omega (arith, regex_captures bs ps) })
-part_is (looking positive back) g begin number bs ps r h k e f =
-    same_part g (looking positive back) begin bs ps (look_text begin positive back (regex_of bs ps)) r f
-    (record { tokens = wrapped begin (looking positive back) bs ps; shape = subst (λ n. IsRegex n (regex_of bs ps)) (omega arith) (regex_shape bs ps (g + 0) h k); counts = omega (arith, regex_captures bs ps) })
-part_is (choosing id) g begin number done ps r h k e f =
-    same_part g (choosing id) begin done ps (conditional begin id (sequence ps)) r f
+part_is non_capturing g begin number bs ps r h k e f =
+    same_part g non_capturing begin bs ps (plain begin (regex_of bs ps)) r f
+    (record { tokens = wrapped begin non_capturing bs ps; shape = subst (λ n. IsRegex n (regex_of bs ps)) (omega arith) (regex_shape bs ps (g + 0) h k); counts = omega (arith, regex_captures bs ps) })
+part_is atomic_opening g begin number bs ps r h k e f =
+    same_part g atomic_opening begin bs ps (atomic_text begin (regex_of bs ps)) r f
+    (record { tokens = wrapped begin atomic_opening bs ps; shape = subst (λ n. IsRegex n (regex_of bs ps)) (omega arith) (regex_shape bs ps (g + 0) h k); counts = omega (arith, regex_captures bs ps) })
+part_is (look_opening positive back) g begin number bs ps r h k e f =
+    same_part g (look_opening positive back) begin bs ps (look_text begin positive back (regex_of bs ps)) r f
+    (record { tokens = wrapped begin (look_opening positive back) bs ps; shape = subst (λ n. IsRegex n (regex_of bs ps)) (omega arith) (regex_shape bs ps (g + 0) h k); counts = omega (arith, regex_captures bs ps) })
+part_is (conditional_opening id) g begin number done ps r h k e f =
+    same_part g (conditional_opening id) begin done ps (conditional begin id (sequence ps)) r f
     (record { tokens = refl; shape = subst (λ n. ArePieces n ps) (omega arith) k; counts = omega arith })
-part_is (choosing id) g begin number (b also done) ps r h k e f =
-    same_part g (choosing id) begin (b also done) ps (conditional_else begin id b (sequence ps)) r f
+part_is (conditional_opening id) g begin number (b also done) ps r h k e f =
+    same_part g (conditional_opening id) begin (b also done) ps (conditional_else begin id b (sequence ps)) r f
     (record {
-      tokens = ap (λ l. open_token begin (choosing id) ∷ l) (simp append_assoc);
+      tokens = ap (λ l. open_token begin (conditional_opening id) ∷ l) (simp append_assoc);
       shape = (subst (λ n. IsBranch n b) (omega arith) h.0, subst (λ n. ArePieces n ps) (omega arith) k);
       counts = omega arith;
     })
-part_is (choosing id) g begin number (b also c also bs) ps r h k e f = let x : ⊥ = cc f in absurd x
+part_is (conditional_opening id) g begin number (b also c also bs) ps r h k e f = let x : ⊥ = cc f in absurd x
 
 -- one step
 pub record Steps (s : State) (t : Token) (n : State) : Type 0 where

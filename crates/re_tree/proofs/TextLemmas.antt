@@ -3,9 +3,9 @@ use Rattle.std.proofs.Common.{◌≡◌, refl, sym, ◌∙◌, ap, subst, ℕ, z
 use Rattle.std.specs.Prelude.{Option, Some, None, codes}
 use Rattle.re_tree.specs.declared.tree.CountMode.{CountMode}
 use Rattle.re_tree.specs.PlainText.{PlainTest, dot, dot_all, literal, set, GroupName, numbered, named, PlainText}
-use Rattle.re_tree.specs.Tokens.{Opening, capturing, grouping, keeping, looking, choosing, Token, unit_token, anchor_token, reference_token, count_token, open_token, bar, close, tokens_of}
-use Rattle.re_tree.specs.Grammar.{Flags, WritesBounds, by_sign, exactly, between, WritesCharacter, itself, brace, escaped_punctuation, escaped_letter, hexadecimal, WritesNumber, one, two, WritesOpening, WritesAnchor, line_anchor, letter_anchor, WritesSet, alone, in_brackets, IsToken, AreTokens, ReadsAs}
-use Rattle.re_tree.specs.Reading.{Found, next_token, put_token, token_then, all_tokens}
+use Rattle.re_tree.specs.Tokens.{Opening, capturing, non_capturing, atomic_opening, look_opening, conditional_opening, Token, unit_token, anchor_token, reference_token, count_token, open_token, bar, close, tokens_of}
+use Rattle.re_tree.specs.Grammar.{Flags, WritesBounds, by_sign, exactly, between, WritesCharacter, itself, brace, escaped_itself, escaped_letter, hexadecimal, WritesNumber, one, two, WritesOpening, WritesAnchor, line_anchor, letter_anchor, WritesSet, alone, in_brackets, IsToken, AreTokens, ReadsAs}
+use Rattle.re_tree.specs.Reading.{Found, front_token, put_token, token_then, all_tokens}
 use Rattle.re_tree.specs.Machine.{tree_of_tokens, tree_of_all, read_tree}
 use Rattle.re_tree.proofs.TokenReadLemmas.{token_read}
 use Rattle.re_tree.proofs.TokenWrittenLemmas.{Written, token_written}
@@ -24,18 +24,18 @@ bounds_long least most written tail (between ds es h k i j e) = omega (arith, le
 opening_long : (opening : Opening) (written rest : List ℕ) → WritesOpening opening written rest → 1 ≤ length written
 opening_long (capturing None) written rest h = omega (arith, ap length h.0)
 opening_long (capturing (Some name)) written rest h = omega (arith, ap length h.1)
-opening_long grouping written rest h = omega (arith, ap length h)
-opening_long keeping written rest h = omega (arith, ap length h)
-opening_long (looking true false) written rest h = omega (arith, ap length h)
-opening_long (looking false false) written rest h = omega (arith, ap length h)
-opening_long (looking true true) written rest h = omega (arith, ap length h)
-opening_long (looking false true) written rest h = omega (arith, ap length h)
-opening_long (choosing id) written rest h = omega (arith, ap length h.3)
+opening_long non_capturing written rest h = omega (arith, ap length h)
+opening_long atomic_opening written rest h = omega (arith, ap length h)
+opening_long (look_opening true false) written rest h = omega (arith, ap length h)
+opening_long (look_opening false false) written rest h = omega (arith, ap length h)
+opening_long (look_opening true true) written rest h = omega (arith, ap length h)
+opening_long (look_opening false true) written rest h = omega (arith, ap length h)
+opening_long (conditional_opening id) written rest h = omega (arith, ap length h.3)
 
 character_long : (c : ℕ) (written rest : List ℕ) → WritesCharacter c written rest → 1 ≤ length written
 character_long c written rest (itself n e) = omega (arith, ap length e)
 character_long c written rest (brace i e h) = omega (arith, ap length e)
-character_long c written rest (escaped_punctuation m e) = omega (arith, ap length e)
+character_long c written rest (escaped_itself m e) = omega (arith, ap length e)
 character_long c written rest (escaped_letter l f e) = omega (arith, ap length e)
 character_long c written rest (hexadecimal l n ds f m v g e) = omega (arith, ap length e)
 
@@ -67,11 +67,11 @@ token_long flags close p written rest h = omega (arith, ap length h)
 
 -- one step of reading all tokens
 pub step_at : (flags : Flags) (whole n p : ℕ) (text : List ℕ) (t : Token) (rest : List ℕ) → 1 ≤ length text → p + length text ≡ whole
-    → next_token flags p text ≡ Some (t, rest) → all_tokens flags whole (suc n) text ≡ put_token t (all_tokens flags whole n rest)
+    → front_token flags p text ≡ Some (t, rest) → all_tokens flags whole (suc n) text ≡ put_token t (all_tokens flags whole n rest)
 step_at flags whole n p [] t rest h e f = let x : ⊥ = omega (arith, h) in absurd x
 step_at flags whole n p (c ∷ cs) t rest h e f =
     let q : whole - length (c ∷ cs) ≡ p = omega (arith, e) in
-    ap (λ o. token_then o (all_tokens flags whole n)) (ap (λ k. next_token flags k (c ∷ cs)) q ∙ f)
+    ap (λ o. token_then o (all_tokens flags whole n)) (ap (λ k. front_token flags k (c ∷ cs)) q ∙ f)
 
 all_read : (ts : List Token) (flags : Flags) (whole n p : ℕ) (text : List ℕ) → AreTokens flags p ts text → p + length text ≡ whole → length text ≤ n → all_tokens flags whole n text ≡ Some ts
 all_read [] flags whole n p text h e le = ap (all_tokens flags whole n) h
@@ -81,7 +81,7 @@ all_read (t ∷ ts) flags whole zero p text h e le =
 all_read (t ∷ ts) flags whole (suc n) p text h e le =
     let k : 1 ≤ length h.0 = token_long flags t p h.0 h.1 h.3 in
     let s : length text ≡ length h.0 + length h.1 = ap length h.2 ∙ length-append h.0 h.1 in
-    step_at flags whole n p text t h.1 (omega (arith, k, s)) e (ap (next_token flags p) h.2 ∙ token_read flags t p h.0 h.1 h.3)
+    step_at flags whole n p text t h.1 (omega (arith, k, s)) e (ap (front_token flags p) h.2 ∙ token_read flags t p h.0 h.1 h.3)
     ∙ ap (put_token t) (all_read ts flags whole n (p + length h.0) h.1 h.4 (omega (arith, e, s)) (omega (arith, le, s, k)))
 
 -- and what all tokens are
@@ -91,7 +91,7 @@ put_is t (Some us) ts e = (us, refl, cc e)
 
 then_written : (flags : Flags) (whole n p : ℕ) (c : ℕ) (cs : List ℕ) (ts : List Token) (o : Found) → p + length (c ∷ cs) ≡ whole
     → ((q : ℕ) (rest : List ℕ) (us : List Token) → q + length rest ≡ whole → all_tokens flags whole n rest ≡ Some us → AreTokens flags q us rest)
-    → next_token flags p (c ∷ cs) ≡ o → token_then o (all_tokens flags whole n) ≡ Some ts → AreTokens flags p ts (c ∷ cs)
+    → front_token flags p (c ∷ cs) ≡ o → token_then o (all_tokens flags whole n) ≡ Some ts → AreTokens flags p ts (c ∷ cs)
 then_written flags whole n p c cs ts None e ih f g = let x : ⊥ = cc g in absurd x
 then_written flags whole n p c cs ts (Some x) e ih f g =
     let k : Written flags p (c ∷ cs) x.0 x.1 = token_written flags p (c ∷ cs) x.0 x.1 f in
@@ -106,8 +106,8 @@ all_written zero flags whole p (c ∷ cs) ts e f = let x : ⊥ = cc f in absurd 
 all_written (suc n) flags whole p [] ts e f = let i : [] ≡ ts = cc f in subst (λ l. AreTokens flags p l []) i refl
 all_written (suc n) flags whole p (c ∷ cs) ts e f =
     let q : whole - length (c ∷ cs) ≡ p = omega (arith, e) in
-    then_written flags whole n p c cs ts (next_token flags p (c ∷ cs)) e (λ r rest us. all_written n flags whole r rest us) refl
-    (ap (λ k. token_then (next_token flags k (c ∷ cs)) (all_tokens flags whole n)) (sym q) ∙ f)
+    then_written flags whole n p c cs ts (front_token flags p (c ∷ cs)) e (λ r rest us. all_written n flags whole r rest us) refl
+    (ap (λ k. token_then (front_token flags k (c ∷ cs)) (all_tokens flags whole n)) (sym q) ∙ f)
 
 -- the grammar and the reader say the same
 pub reads : (text : List ℕ) (flags : Flags) (r : PlainText) → ReadsAs text flags r → read_tree flags text ≡ Some r

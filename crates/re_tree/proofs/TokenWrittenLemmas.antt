@@ -7,14 +7,14 @@ use Rattle.re_tree.specs.declared.tree.CountMode.TheVariants.{Greedy, Lazy, Poss
 use Rattle.re_tree.specs.declared.unit.UnitItem.{UnitItem}
 use Rattle.re_tree.specs.declared.unit.UnitItem.TheVariants.{Category}
 use Rattle.re_tree.specs.PlainText.{PlainTest, dot, dot_all, literal, set, GroupName, numbered, named}
-use Rattle.re_tree.specs.Tokens.{Opening, capturing, grouping, keeping, looking, choosing, Token, unit_token, anchor_token, reference_token, count_token, open_token, bar, close}
+use Rattle.re_tree.specs.Tokens.{Opening, capturing, non_capturing, atomic_opening, look_opening, conditional_opening, Token, unit_token, anchor_token, reference_token, count_token, open_token, bar, close}
 use Rattle.py_base.specs.Reading.{find}
-use Rattle.re_tree.specs.Tables.{Sign, escapes, dots, lines, counts, braces, brackets, opens, closes, splits, signs, Letter, is_character_of, digits_follow, categories, anchors, letters, Extension, opens_as, looks_back, has_name, chooses, extensions}
+use Rattle.re_tree.specs.Tables.{Sign, escapes, dots, lines, counts, braces, brackets, opens, closes, splits, signs, Letter, is_character_of, digits_follow, categories, anchors, letters, Extension, opens_as, looks_behind, has_name, is_conditional, extensions}
 use Rattle.re_tree.specs.Sets.{AreItems, Items, items_at, caret_if}
 use Rattle.re_tree.proofs.SetLemmas.{items_written, items_split}
-use Rattle.re_tree.specs.Characters.{read_hex, if_flag, is_digit, is_octal, is_punctuation, first_is}
-use Rattle.re_tree.specs.Grammar.{Flags, is_first_digit, has, WritesBounds, by_sign, WritesMode, BeginsNoCount, WritesCharacter, itself, brace, escaped_punctuation, escaped_letter, hexadecimal, id_of, WritesNumber, one, two, WritesOpening, WritesAnchor, line_anchor, letter_anchor, WritesSet, alone, in_brackets, WritesTest, IsToken}
-use Rattle.re_tree.specs.Reading.{Found, if_dotall, Bounds, read_bounds, with_mode, brace_token, add_front, up_to, named_opening, named_reference, named_choice, name_token, back_token, extension_token, extended, opening_token, number_token, letter_token, escape_token, sign_token, next_token, set_token, bracket_token, hex_token}
+use Rattle.re_tree.specs.Characters.{read_hex, if_flag, is_digit, is_octal, is_ascii_non_alphanumeric, first_is}
+use Rattle.re_tree.specs.Grammar.{Flags, is_first_digit, has, WritesBounds, by_sign, WritesMode, BeginsNoCount, WritesCharacter, itself, brace, escaped_itself, escaped_letter, hexadecimal, id_of, WritesNumber, one, two, WritesOpening, WritesAnchor, line_anchor, letter_anchor, WritesSet, alone, in_brackets, WritesTest, IsToken}
+use Rattle.re_tree.specs.Reading.{Found, if_dotall, Bounds, read_bounds, with_mode, brace_token, add_front, up_to, named_opening, named_reference, named_conditional, name_token, lookbehind_token, extension_token, extended, opening_token, number_token, letter_token, escape_token, sign_token, front_token, set_token, bracket_token, hex_token}
 use Rattle.re_tree.proofs.HexLemmas.{HexWritten, hex_written}
 use Rattle.re_tree.proofs.TableLemmas.{key_is}
 use Rattle.re_tree.proofs.BoundLemmas.{cond_true, cond_false, exactly_read, between_read, Bounded, read_is, append_nil}
@@ -133,11 +133,11 @@ reference_written flags p cs t rest (Some x) u e =
     given flags p (40 ∷ 63 ∷ 80 ∷ 61 ∷ cs) t (reference_token p (named x.0)) rest x.1 e
     (record { written = 40 ∷ 63 ∷ 80 ∷ 61 ∷ (x.0 ++ 41 ∷ []); is = ap (λ l. 40 ∷ 63 ∷ 80 ∷ 61 ∷ l) k.is; token = (refl, k.lacks, refl) })
 
-choice_written : (flags : Flags) (p : ℕ) (cs : List ℕ) (t : Token) (rest : List ℕ) (o : Option (List ℕ × List ℕ)) → up_to 41 cs ≡ o → named_choice p o ≡ Some (t, rest) → Written flags p (40 ∷ 63 ∷ 40 ∷ cs) t rest
+choice_written : (flags : Flags) (p : ℕ) (cs : List ℕ) (t : Token) (rest : List ℕ) (o : Option (List ℕ × List ℕ)) → up_to 41 cs ≡ o → named_conditional p o ≡ Some (t, rest) → Written flags p (40 ∷ 63 ∷ 40 ∷ cs) t rest
 choice_written flags p cs t rest None u e = none_given t rest e
 choice_written flags p cs t rest (Some x) u e =
     let k : Upto 41 cs x.0 x.1 = up_to_is 41 cs x.0 x.1 u in
-    given flags p (40 ∷ 63 ∷ 40 ∷ cs) t (open_token p (choosing (id_of x.0))) rest x.1 e
+    given flags p (40 ∷ 63 ∷ 40 ∷ cs) t (open_token p (conditional_opening (id_of x.0))) rest x.1 e
     (record { written = 40 ∷ 63 ∷ 40 ∷ (x.0 ++ 41 ∷ []); is = ap (λ l. 40 ∷ 63 ∷ 40 ∷ l) k.is; token = (refl, (x.0, k.lacks, refl, refl)) })
 
 -- a text whose first character after what is passed is known
@@ -153,48 +153,48 @@ name_written flags p (c ∷ cs) t rest e =
     (λ h i. at_first flags p c 61 (λ l. 40 ∷ 63 ∷ 80 ∷ l) cs t rest (eqb-true c 61 h) (reference_written flags p cs t rest (up_to 41 cs) refl i))
     (λ h i. none_given t rest i))
 
-back_written : (flags : Flags) (p : ℕ) (cs : List ℕ) (t : Token) (rest : List ℕ) → back_token p cs ≡ Some (t, rest) → Written flags p (40 ∷ 63 ∷ 60 ∷ cs) t rest
+back_written : (flags : Flags) (p : ℕ) (cs : List ℕ) (t : Token) (rest : List ℕ) → lookbehind_token p cs ≡ Some (t, rest) → Written flags p (40 ∷ 63 ∷ 60 ∷ cs) t rest
 back_written flags p [] t rest e = none_given t rest e
 back_written flags p (c ∷ cs) t rest e =
-    choice (c == 61) (Some (open_token p (looking true true), cs)) (cond (c == 33) (Some (open_token p (looking false true), cs)) None) (t, rest) e
+    choice (c == 61) (Some (open_token p (look_opening true true), cs)) (cond (c == 33) (Some (open_token p (look_opening false true), cs)) None) (t, rest) e
     (λ f g. at_first flags p c 61 (λ l. 40 ∷ 63 ∷ 60 ∷ l) cs t rest (eqb-true c 61 f)
-    (given flags p (40 ∷ 63 ∷ 60 ∷ 61 ∷ cs) t (open_token p (looking true true)) rest cs g (record { written = 40 ∷ 63 ∷ 60 ∷ 61 ∷ []; is = refl; token = (refl, refl) })))
-    (λ f g. choice (c == 33) (Some (open_token p (looking false true), cs)) None (t, rest) g
+    (given flags p (40 ∷ 63 ∷ 60 ∷ 61 ∷ cs) t (open_token p (look_opening true true)) rest cs g (record { written = 40 ∷ 63 ∷ 60 ∷ 61 ∷ []; is = refl; token = (refl, refl) })))
+    (λ f g. choice (c == 33) (Some (open_token p (look_opening false true), cs)) None (t, rest) g
     (λ h i. at_first flags p c 33 (λ l. 40 ∷ 63 ∷ 60 ∷ l) cs t rest (eqb-true c 33 h)
-    (given flags p (40 ∷ 63 ∷ 60 ∷ 33 ∷ cs) t (open_token p (looking false true)) rest cs i (record { written = 40 ∷ 63 ∷ 60 ∷ 33 ∷ []; is = refl; token = (refl, refl) })))
+    (given flags p (40 ∷ 63 ∷ 60 ∷ 33 ∷ cs) t (open_token p (look_opening false true)) rest cs i (record { written = 40 ∷ 63 ∷ 60 ∷ 33 ∷ []; is = refl; token = (refl, refl) })))
     (λ h i. none_given t rest i))
 
 -- the character of each extension; no other opening is one
 abbrev extension_key : Extension → ℕ
-extension_key (opens_as grouping) = 58
-extension_key (opens_as keeping) = 62
-extension_key (opens_as (looking true false)) = 61
-extension_key (opens_as (looking false false)) = 33
+extension_key (opens_as non_capturing) = 58
+extension_key (opens_as atomic_opening) = 62
+extension_key (opens_as (look_opening true false)) = 61
+extension_key (opens_as (look_opening false false)) = 33
 extension_key (opens_as _) = 0
-extension_key looks_back = 60
+extension_key looks_behind = 60
 extension_key has_name = 80
-extension_key chooses = 40
+extension_key is_conditional = 40
 
 opens_written : (flags : Flags) (p c : ℕ) (cs : List ℕ) (o : Opening) → find extensions c ≡ Some (opens_as o) → c ≡ extension_key (opens_as o) → Written flags p (40 ∷ 63 ∷ c ∷ cs) (open_token p o) cs
-opens_written flags p c cs grouping f e = record { written = 40 ∷ 63 ∷ c ∷ []; is = refl; token = (refl, ap (λ k. 40 ∷ 63 ∷ k ∷ []) e) }
-opens_written flags p c cs keeping f e = record { written = 40 ∷ 63 ∷ c ∷ []; is = refl; token = (refl, ap (λ k. 40 ∷ 63 ∷ k ∷ []) e) }
-opens_written flags p c cs (looking true false) f e = record { written = 40 ∷ 63 ∷ c ∷ []; is = refl; token = (refl, ap (λ k. 40 ∷ 63 ∷ k ∷ []) e) }
-opens_written flags p c cs (looking false false) f e = record { written = 40 ∷ 63 ∷ c ∷ []; is = refl; token = (refl, ap (λ k. 40 ∷ 63 ∷ k ∷ []) e) }
-opens_written flags p c cs (looking true true) f e = let g = subst (λ k. find extensions k ≡ Some (opens_as (looking true true))) e f in let h : ⊥ = cc g in absurd h
-opens_written flags p c cs (looking false true) f e = let g = subst (λ k. find extensions k ≡ Some (opens_as (looking false true))) e f in let h : ⊥ = cc g in absurd h
+opens_written flags p c cs non_capturing f e = record { written = 40 ∷ 63 ∷ c ∷ []; is = refl; token = (refl, ap (λ k. 40 ∷ 63 ∷ k ∷ []) e) }
+opens_written flags p c cs atomic_opening f e = record { written = 40 ∷ 63 ∷ c ∷ []; is = refl; token = (refl, ap (λ k. 40 ∷ 63 ∷ k ∷ []) e) }
+opens_written flags p c cs (look_opening true false) f e = record { written = 40 ∷ 63 ∷ c ∷ []; is = refl; token = (refl, ap (λ k. 40 ∷ 63 ∷ k ∷ []) e) }
+opens_written flags p c cs (look_opening false false) f e = record { written = 40 ∷ 63 ∷ c ∷ []; is = refl; token = (refl, ap (λ k. 40 ∷ 63 ∷ k ∷ []) e) }
+opens_written flags p c cs (look_opening true true) f e = let g = subst (λ k. find extensions k ≡ Some (opens_as (look_opening true true))) e f in let h : ⊥ = cc g in absurd h
+opens_written flags p c cs (look_opening false true) f e = let g = subst (λ k. find extensions k ≡ Some (opens_as (look_opening false true))) e f in let h : ⊥ = cc g in absurd h
 opens_written flags p c cs (capturing name) f e = let g = subst (λ k. find extensions k ≡ Some (opens_as (capturing name))) e f in let h : ⊥ = cc g in absurd h
-opens_written flags p c cs (choosing id) f e = let g = subst (λ k. find extensions k ≡ Some (opens_as (choosing id))) e f in let h : ⊥ = cc g in absurd h
+opens_written flags p c cs (conditional_opening id) f e = let g = subst (λ k. find extensions k ≡ Some (opens_as (conditional_opening id))) e f in let h : ⊥ = cc g in absurd h
 
 extension_written : (flags : Flags) (p c : ℕ) (cs : List ℕ) (t : Token) (rest : List ℕ) (x : Option Extension) → find extensions c ≡ x → extension_token x p cs ≡ Some (t, rest) → Written flags p (40 ∷ 63 ∷ c ∷ cs) t rest
 extension_written flags p c cs t rest None f e = none_given t rest e
 extension_written flags p c cs t rest (Some (opens_as o)) f e =
     given flags p (40 ∷ 63 ∷ c ∷ cs) t (open_token p o) rest cs e (opens_written flags p c cs o f (key_is extension_key extensions c (opens_as o) refl f))
-extension_written flags p c cs t rest (Some looks_back) f e =
-    at_first flags p c 60 (λ l. 40 ∷ 63 ∷ l) cs t rest (key_is extension_key extensions c looks_back refl f) (back_written flags p cs t rest e)
+extension_written flags p c cs t rest (Some looks_behind) f e =
+    at_first flags p c 60 (λ l. 40 ∷ 63 ∷ l) cs t rest (key_is extension_key extensions c looks_behind refl f) (back_written flags p cs t rest e)
 extension_written flags p c cs t rest (Some has_name) f e =
     at_first flags p c 80 (λ l. 40 ∷ 63 ∷ l) cs t rest (key_is extension_key extensions c has_name refl f) (name_written flags p cs t rest e)
-extension_written flags p c cs t rest (Some chooses) f e =
-    at_first flags p c 40 (λ l. 40 ∷ 63 ∷ l) cs t rest (key_is extension_key extensions c chooses refl f) (choice_written flags p cs t rest (up_to 41 cs) refl e)
+extension_written flags p c cs t rest (Some is_conditional) f e =
+    at_first flags p c 40 (λ l. 40 ∷ 63 ∷ l) cs t rest (key_is extension_key extensions c is_conditional refl f) (choice_written flags p cs t rest (up_to 41 cs) refl e)
 
 extended_written : (flags : Flags) (p : ℕ) (cs : List ℕ) (t : Token) (rest : List ℕ) → extended p cs ≡ Some (t, rest) → Written flags p (40 ∷ 63 ∷ cs) t rest
 extended_written flags p [] t rest e = none_given t rest e
@@ -231,10 +231,10 @@ hex_token_written flags p l n cs t rest (Some x) f r e =
 
 letter_written : (flags : Flags) (p l : ℕ) (cs : List ℕ) (t : Token) (rest : List ℕ) (o : Option Letter) → find letters l ≡ o → letter_token o flags p l cs ≡ Some (t, rest) → Written flags p (92 ∷ l ∷ cs) t rest
 letter_written flags p l cs t rest None f e =
-    choice (is_first_digit l) (number_token p l cs) (cond (is_punctuation l) (Some (unit_token (literal l), cs)) None) (t, rest) e
+    choice (is_first_digit l) (number_token p l cs) (cond (is_ascii_non_alphanumeric l) (Some (unit_token (literal l), cs)) None) (t, rest) e
     (λ h g. number_written flags p l cs t rest h g)
-    (λ h g. choice (is_punctuation l) (Some (unit_token (literal l), cs)) None (t, rest) g
-    (λ m i. given flags p (92 ∷ l ∷ cs) t (unit_token (literal l)) rest cs i (record { written = 92 ∷ l ∷ []; is = refl; token = escaped_punctuation m refl }))
+    (λ h g. choice (is_ascii_non_alphanumeric l) (Some (unit_token (literal l), cs)) None (t, rest) g
+    (λ m i. given flags p (92 ∷ l ∷ cs) t (unit_token (literal l)) rest cs i (record { written = 92 ∷ l ∷ []; is = refl; token = escaped_itself m refl }))
     (λ m i. none_given t rest i))
 letter_written flags p l cs t rest (Some (is_character_of c)) f e =
     given flags p (92 ∷ l ∷ cs) t (unit_token (literal c)) rest cs e (record { written = 92 ∷ l ∷ []; is = refl; token = escaped_letter l f refl })
@@ -309,6 +309,6 @@ sign_written flags p c cs t rest (Some closes) f e =
 sign_written flags p c cs t rest (Some splits) f e =
     given flags p (c ∷ cs) t bar rest cs e (record { written = c ∷ []; is = refl; token = ap (λ k. k ∷ []) (key_is sign_key signs c splits refl f) })
 
-pub token_written : (flags : Flags) (p : ℕ) (text : List ℕ) (t : Token) (rest : List ℕ) → next_token flags p text ≡ Some (t, rest) → Written flags p text t rest
+pub token_written : (flags : Flags) (p : ℕ) (text : List ℕ) (t : Token) (rest : List ℕ) → front_token flags p text ≡ Some (t, rest) → Written flags p text t rest
 token_written flags p [] t rest e = none_given t rest e
 token_written flags p (c ∷ cs) t rest e = sign_written flags p c cs t rest (find signs c) refl e

@@ -1,4 +1,4 @@
--- Characters that the grammar of texts names.
+-- Characters that the grammar of patterns names.
 use Rattle.std.specs.Prelude.{ℕ, zero, suc, ◌+◌, ◌-◌, ◌*◌, Option, Some, None, if◌then◌else◌, ◌||◌, ◌&&◌, not, nat_le, nat_lt, Bool, true, false, List, [], ◌∷◌}
 
 abbrev pub if_flag : Bool → ℕ → ℕ → ℕ
@@ -16,8 +16,8 @@ abbrev pub is_letter : ℕ → Bool
 is_letter c = (nat_le 65 c && nat_le c 90) || (nat_le 97 c && nat_le c 122)
 
 -- an ASCII character that is no letter and no digit
-abbrev pub is_punctuation : ℕ → Bool
-is_punctuation c = nat_lt c 128 && not (is_digit c || is_letter c)
+abbrev pub is_ascii_non_alphanumeric : ℕ → Bool
+is_ascii_non_alphanumeric c = nat_lt c 128 && not (is_digit c || is_letter c)
 
 -- the first character is there and meets the test
 abbrev pub first_is : (ℕ → Bool) → List ℕ → Bool

@@ -1,4 +1,4 @@
--- What is wrong with a text that has a tree, and which fault is answered.
+-- What is wrong with a pattern that has a tree, and which fault is answered.
 use Rattle.std.specs.Prelude.{ℕ, ◌+◌, ◌==◌, ◌&&◌, ◌||◌, not, nat_le, nat_lt, nat_eq, Bool, true, false, List, [], ◌∷◌, ◌++◌, Option, Some, None, if◌then◌else◌}
 use Rattle.std.specs.List.{list_any, list_all}
 use lib.Pointwise.{pointwise}
@@ -6,8 +6,9 @@ use Rattle.py_base.specs.Chars.Classes.{is_id_start, is_id_continue}
 use Rattle.re_tree.specs.declared.fault.Fault.{Fault}
 use Rattle.re_tree.specs.declared.fault.FaultKind.{FaultKind}
 use Rattle.re_tree.specs.declared.fault.FaultKind.TheVariants.{TooDeep, TooManyGroups, BadName, BadCount, BadReference, NotFixedWidth}
+use Rattle.re_tree.specs.declared.limits.TheConstants.{MAX_PARENTHESES, MAX_GROUPS, MAX_COUNT, MAX_WIDTH}
 use Rattle.re_tree.specs.PlainText.{GroupName, numbered, named, PlainText, PlainTexts, unit, anchor, reference, conditional, conditional_else, sequence, alternation, counted, capture, plain, atomic_text, look_text, done, ◌also◌, Names, name_of, names_of, all_names, find_name, captures}
-use Rattle.re_tree.specs.Tokens.{Opening, capturing, grouping, keeping, looking, choosing}
+use Rattle.re_tree.specs.Tokens.{Opening, capturing, non_capturing, atomic_opening, look_opening, conditional_opening}
 use Rattle.re_tree.specs.Widths.{width}
 
 abbrev pub rank : FaultKind → ℕ
@@ -82,9 +83,9 @@ abbrev pub is_closed : Where → GroupName → Bool
 is_closed w (numbered n) = has_number n w.closed
 is_closed w (named name) = has_number (find_name w.names name) w.closed
 
--- a parenthesis inside 60 others
+-- a parenthesis inside too many others
 abbrev pub deep : Where → ℕ → List Fault
-deep w begin = only_if (nat_le 60 w.depth) begin TooDeep
+deep w begin = only_if (nat_le MAX_PARENTHESES w.depth) begin TooDeep
 
 -- a back reference: `(?P=name)` begins with a parenthesis, and `\1` does not
 abbrev pub at_reference : Where → ℕ → GroupName → List Fault
@@ -92,19 +93,19 @@ at_reference w begin (numbered n) = only_if (not (is_closed w (numbered n))) beg
 at_reference w begin (named name) = deep w begin ++ (only_if (not (is_identifier name)) begin BadName ++ only_if (not (is_closed w (named name))) begin BadReference)
 
 -- an opening, where a group that it begins has this number; the number of a conditional is tested
--- at the end of the text
+-- at the end of the pattern
 abbrev pub of_opening : Where → ℕ → ℕ → Opening → List Fault
-of_opening w begin number (capturing None) = only_if (nat_lt 65535 number) begin TooManyGroups
-of_opening w begin number (capturing (Some name)) = only_if (nat_lt 65535 number) begin TooManyGroups ++ only_if (not (is_identifier name) || has_name w.names name) begin BadName
-of_opening w begin number (choosing (named name)) = only_if (not (is_identifier name)) begin BadName ++ only_if (not (has_name w.names name)) begin BadReference
+of_opening w begin number (capturing None) = only_if (nat_lt MAX_GROUPS number) begin TooManyGroups
+of_opening w begin number (capturing (Some name)) = only_if (nat_lt MAX_GROUPS number) begin TooManyGroups ++ only_if (not (is_identifier name) || has_name w.names name) begin BadName
+of_opening w begin number (conditional_opening (named name)) = only_if (not (is_identifier name)) begin BadName ++ only_if (not (has_name w.names name)) begin BadReference
 of_opening w begin number _ = []
 
 abbrev pub at_opening : Where → ℕ → ℕ → Opening → List Fault
 at_opening w begin number opening = deep w begin ++ of_opening w begin number opening
 
 abbrev pub is_bad_count : ℕ → Option ℕ → Bool
-is_bad_count least None = nat_lt 4294967294 least
-is_bad_count least (Some most) = nat_lt 4294967294 least || nat_lt 4294967294 most || nat_lt most least
+is_bad_count least None = nat_lt MAX_COUNT least
+is_bad_count least (Some most) = nat_lt MAX_COUNT least || nat_lt MAX_COUNT most || nat_lt most least
 
 abbrev pub at_count : ℕ → ℕ → Option ℕ → List Fault
 at_count begin least most = only_if (is_bad_count least most) begin BadCount
@@ -112,11 +113,11 @@ at_count begin least most = only_if (is_bad_count least most) begin BadCount
 -- no width, or one that no code word holds
 abbrev pub is_wide : Option ℕ → Bool
 is_wide None = true
-is_wide (Some k) = nat_lt 4294967295 k
+is_wide (Some k) = nat_lt MAX_WIDTH k
 
 -- the end of a part, whose body has this width
 abbrev pub at_close : ℕ → Opening → Option ℕ → List Fault
-at_close begin (looking positive true) w = only_if (is_wide w) begin NotFixedWidth
+at_close begin (look_opening positive true) w = only_if (is_wide w) begin NotFixedWidth
 at_close begin _ w = []
 
 -- the faults of a part, in the order in which they are seen
@@ -125,51 +126,51 @@ abbrev mutual
   faults w (unit test) = []
   faults w (anchor k) = []
   faults w (reference begin id) = at_reference w begin id
-  faults w (conditional begin id met) = at_opening w begin 0 (choosing id) ++ faults (inside w 0 (choosing id)) met
+  faults w (conditional begin id met) = at_opening w begin 0 (conditional_opening id) ++ faults (inside w 0 (conditional_opening id)) met
   faults w (conditional_else begin id met other) =
-      at_opening w begin 0 (choosing id) ++ (faults (inside w 0 (choosing id)) met ++ faults (after (inside w 0 (choosing id)) met) other)
+      at_opening w begin 0 (conditional_opening id) ++ (faults (inside w 0 (conditional_opening id)) met ++ faults (after (inside w 0 (conditional_opening id)) met) other)
   faults w (sequence parts) = faults_in_turn w parts
   faults w (alternation branches) = faults_in_turn w branches
   faults w (counted begin least most mode body) = faults w body ++ at_count begin least most
   faults w (capture begin number name body) = at_opening w begin number (capturing name) ++ faults (inside w number (capturing name)) body
-  faults w (plain begin body) = at_opening w begin 0 grouping ++ faults (inside w 0 grouping) body
-  faults w (atomic_text begin body) = at_opening w begin 0 keeping ++ faults (inside w 0 keeping) body
+  faults w (plain begin body) = at_opening w begin 0 non_capturing ++ faults (inside w 0 non_capturing) body
+  faults w (atomic_text begin body) = at_opening w begin 0 atomic_opening ++ faults (inside w 0 atomic_opening) body
   faults w (look_text begin positive back body) =
-      at_opening w begin 0 (looking positive back) ++ (faults (inside w 0 (looking positive back)) body ++ at_close begin (looking positive back) (width body))
+      at_opening w begin 0 (look_opening positive back) ++ (faults (inside w 0 (look_opening positive back)) body ++ at_close begin (look_opening positive back) (width body))
 
   pub faults_in_turn : Where → PlainTexts → List Fault
   faults_in_turn w done = []
   faults_in_turn w (r also rs) = faults w r ++ faults_in_turn (after w r) rs
 
 -- the conditionals by number: their places and numbers
-abbrev pub choice_of : ℕ → GroupName → List (ℕ × ℕ)
-choice_of begin (numbered n) = (begin, n) ∷ []
-choice_of begin (named name) = []
+abbrev pub conditional_of : ℕ → GroupName → List (ℕ × ℕ)
+conditional_of begin (numbered n) = (begin, n) ∷ []
+conditional_of begin (named name) = []
 
 abbrev mutual
-  pub choices : PlainText → List (ℕ × ℕ)
-  choices (conditional begin id met) = choice_of begin id ++ choices met
-  choices (conditional_else begin id met other) = choice_of begin id ++ (choices met ++ choices other)
-  choices (sequence parts) = all_choices parts
-  choices (alternation branches) = all_choices branches
-  choices (counted begin least most mode body) = choices body
-  choices (capture begin number name body) = choices body
-  choices (plain begin body) = choices body
-  choices (atomic_text begin body) = choices body
-  choices (look_text begin positive back body) = choices body
-  choices _ = []
+  pub conditionals : PlainText → List (ℕ × ℕ)
+  conditionals (conditional begin id met) = conditional_of begin id ++ conditionals met
+  conditionals (conditional_else begin id met other) = conditional_of begin id ++ (conditionals met ++ conditionals other)
+  conditionals (sequence parts) = all_conditionals parts
+  conditionals (alternation branches) = all_conditionals branches
+  conditionals (counted begin least most mode body) = conditionals body
+  conditionals (capture begin number name body) = conditionals body
+  conditionals (plain begin body) = conditionals body
+  conditionals (atomic_text begin body) = conditionals body
+  conditionals (look_text begin positive back body) = conditionals body
+  conditionals _ = []
 
-  pub all_choices : PlainTexts → List (ℕ × ℕ)
-  all_choices done = []
-  all_choices (r also rs) = choices r ++ all_choices rs
+  pub all_conditionals : PlainTexts → List (ℕ × ℕ)
+  all_conditionals done = []
+  all_conditionals (r also rs) = conditionals r ++ all_conditionals rs
 
--- where the text has so many groups in all: a number that is 0 or past them
+-- where the pattern has so many groups in all: a number that is 0 or past them
 abbrev pub is_past : ℕ → ℕ → Bool
 is_past all number = number == 0 || nat_lt all number
 
-abbrev pub choice_faults : ℕ → List (ℕ × ℕ) → List Fault
-choice_faults all [] = []
-choice_faults all (x ∷ xs) = only_if (is_past all x.1) x.0 BadReference ++ choice_faults all xs
+abbrev pub conditional_faults : ℕ → List (ℕ × ℕ) → List Fault
+conditional_faults all [] = []
+conditional_faults all (x ∷ xs) = only_if (is_past all x.1) x.0 BadReference ++ conditional_faults all xs
 
 -- one comes before another where its place is less, or at one place its kind
 abbrev pub is_before : Fault → Fault → Bool
@@ -183,15 +184,15 @@ abbrev pub first_of : List Fault → Option Fault
 first_of [] = None
 first_of (a ∷ rest) = the_first a (first_of rest)
 
--- all faults of a text with this tree
+-- all faults of a pattern with this tree
 abbrev pub all_faults : PlainText → List Fault
-all_faults r = faults outermost r ++ choice_faults (captures r) (choices r)
+all_faults r = faults outermost r ++ conditional_faults (captures r) (conditionals r)
 
 -- the one that is answered
 abbrev pub fault_of : PlainText → Option Fault
 fault_of r = first_of (all_faults r)
 
--- what is found in a text: nothing where it has no tree, and else its first fault, if it has one
+-- what is found in a pattern: nothing where it has no tree, and else its first fault, if it has one
 abbrev pub Verdict : Type 0
 Verdict = Option (Option Fault)
 

@@ -1,4 +1,4 @@
--- Which texts are read as which trees.
+-- Which patterns are read as which trees.
 use Rattle.std.specs.Prelude.{◌≡◌, ℕ, zero, suc, ◌+◌, ◌-◌, ◌*◌, ◌<◌, ◌≤◌, ◌==◌, ◌||◌, ◌&&◌, not, ◌⊎◌, nat_le, nat_lt, Bool, true, false, IsTrue, List, [], ◌∷◌, ◌++◌, length, fold, Option, Some, None, if◌then◌else◌, is_some, codes}
 use Rattle.std.specs.List.{list_any, list_all}
 use Rattle.re_tree.specs.declared.flags.TextFlags.{TextFlags}
@@ -9,9 +9,9 @@ use Rattle.re_tree.specs.declared.unit.UnitItem.TheVariants.{Literal, Span, Cate
 use Rattle.re_tree.specs.PlainText.{PlainTest, dot, dot_all, literal, set, GroupName, numbered, named, PlainText, PlainTexts, unit, anchor, reference, conditional, conditional_else, sequence, alternation, counted, capture, plain, atomic_text, look_text, done, ◌also◌, captures}
 use Rattle.py_base.specs.Reading.{find}
 use Rattle.re_tree.specs.Tables.{Sign, escapes, dots, lines, counts, braces, brackets, opens, closes, splits, signs, Letter, is_character_of, digits_follow, categories, anchors, letters}
-use Rattle.re_tree.specs.Characters.{hex_from, is_character, if_flag, is_digit, is_octal, is_punctuation, first_is}
+use Rattle.re_tree.specs.Characters.{hex_from, is_character, if_flag, is_digit, is_octal, is_ascii_non_alphanumeric, first_is}
 use Rattle.re_tree.specs.Sets.{AreItems, caret_if}
-use Rattle.re_tree.specs.Tokens.{Opening, capturing, grouping, keeping, looking, choosing, Token, unit_token, anchor_token, reference_token, count_token, open_token, bar, close, tokens_of}
+use Rattle.re_tree.specs.Tokens.{Opening, capturing, non_capturing, atomic_opening, look_opening, conditional_opening, Token, unit_token, anchor_token, reference_token, count_token, open_token, bar, close, tokens_of}
 
 -- what may have a count after it
 abbrev pub is_countable : PlainText → Bool
@@ -109,7 +109,7 @@ BeginsNoCount text = (least : ℕ) (most : Option ℕ) (bounds rest : List ℕ)
 pub data WritesCharacter (c : ℕ) (written rest : List ℕ) : Type 0 where
   itself : find signs c ≡ None → written ≡ c ∷ [] → WritesCharacter c written rest
   brace : c ≡ 123 → written ≡ 123 ∷ [] → BeginsNoCount (123 ∷ rest) → WritesCharacter c written rest
-  escaped_punctuation : is_punctuation c ≡ true → written ≡ 92 ∷ c ∷ []
+  escaped_itself : is_ascii_non_alphanumeric c ≡ true → written ≡ 92 ∷ c ∷ []
       → WritesCharacter c written rest
   escaped_letter : (l : ℕ) → find letters l ≡ Some (is_character_of c) → written ≡ 92 ∷ l ∷ []
       → WritesCharacter c written rest
@@ -141,13 +141,13 @@ WritesOpening (capturing None) written rest = (written ≡ codes "(")
     × (first_is (λ c. c == 63) rest ≡ false)
 WritesOpening (capturing (Some name)) written rest = (has 62 name ≡ false)
     × (written ≡ codes "(?P<" ++ (name ++ 62 ∷ []))
-WritesOpening grouping written rest = written ≡ codes "(?:"
-WritesOpening keeping written rest = written ≡ codes "(?>"
-WritesOpening (looking true false) written rest = written ≡ codes "(?="
-WritesOpening (looking false false) written rest = written ≡ codes "(?!"
-WritesOpening (looking true true) written rest = written ≡ codes "(?<="
-WritesOpening (looking false true) written rest = written ≡ codes "(?<!"
-WritesOpening (choosing id) written rest = (name : List ℕ) × (has 41 name ≡ false)
+WritesOpening non_capturing written rest = written ≡ codes "(?:"
+WritesOpening atomic_opening written rest = written ≡ codes "(?>"
+WritesOpening (look_opening true false) written rest = written ≡ codes "(?="
+WritesOpening (look_opening false false) written rest = written ≡ codes "(?!"
+WritesOpening (look_opening true true) written rest = written ≡ codes "(?<="
+WritesOpening (look_opening false true) written rest = written ≡ codes "(?<!"
+WritesOpening (conditional_opening id) written rest = (name : List ℕ) × (has 41 name ≡ false)
     × (id ≡ id_of name) × (written ≡ codes "(?(" ++ (name ++ 41 ∷ []))
 
 -- how an anchor is written
@@ -190,13 +190,13 @@ IsToken flags (open_token begin opening) p written rest = (begin ≡ p)
 IsToken flags bar p written rest = written ≡ codes "|"
 IsToken flags close p written rest = written ≡ codes ")"
 
--- the text is made of these tokens, one after another, and the first is at p
+-- the pattern is made of these tokens, one after another, and the first is at p
 abbrev pub AreTokens : Flags → ℕ → List Token → List ℕ → Type 0
 AreTokens flags p [] text = text ≡ []
 AreTokens flags p (t ∷ ts) text = (written : List ℕ) × (rest : List ℕ) × (text ≡ written ++ rest)
     × IsToken flags t p written rest × AreTokens flags (p + length written) ts rest
 
--- the text reads as r
+-- the pattern reads as r
 pub record ReadsAs (text : List ℕ) (flags : Flags) (r : PlainText) : Type 0 where
   pub tokens : AreTokens flags 0 (tokens_of r) text
   pub shape : IsRegex 0 r

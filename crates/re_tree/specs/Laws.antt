@@ -1,4 +1,4 @@
--- Laws of texts and their trees.
+-- Laws of patterns and their trees.
 use Rattle.std.specs.Prelude.{◌≡◌, ◌↔◌, List, ℕ, Some}
 use Rattle.re_tree.specs.PlainText.{PlainText}
 use Rattle.re_tree.specs.Tokens.{tokens_of}
@@ -10,12 +10,12 @@ abbrev pub NoTokensOfTwoTrees : Type 0
 NoTokensOfTwoTrees = (r q : PlainText) → IsRegex 0 r → IsRegex 0 q → tokens_of r ≡ tokens_of q
     → r ≡ q
 
--- one text and flags read as at most one tree
+-- one pattern and flags read as at most one tree
 abbrev pub OneTreeForOneText : Type 0
 OneTreeForOneText = (text : List ℕ) (flags : Flags) (r q : PlainText) → ReadsAs text flags r
     → ReadsAs text flags q → r ≡ q
 
--- a text reads as a tree exactly where the reading function gives it
+-- a pattern reads as a tree exactly where the reading function gives it
 abbrev pub ReadingIsTheGrammar : Type 0
 ReadingIsTheGrammar = (text : List ℕ) (flags : Flags) (r : PlainText)
     → ReadsAs text flags r ↔ (read_tree flags text ≡ Some r)

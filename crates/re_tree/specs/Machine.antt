@@ -1,7 +1,7 @@
 -- A stack machine from tokens to trees.
 use Rattle.std.specs.Prelude.{ℕ, ◌+◌, Bool, true, false, List, [], ◌∷◌, ◌++◌, length, Option, Some, None, if◌then◌else◌}
 use Rattle.re_tree.specs.PlainText.{PlainText, PlainTexts, unit, anchor, reference, conditional, conditional_else, sequence, alternation, counted, capture, plain, atomic_text, look_text, done, ◌also◌}
-use Rattle.re_tree.specs.Tokens.{Opening, capturing, grouping, keeping, looking, choosing, Token, unit_token, anchor_token, reference_token, count_token, open_token, bar, close}
+use Rattle.re_tree.specs.Tokens.{Opening, capturing, non_capturing, atomic_opening, look_opening, conditional_opening, Token, unit_token, anchor_token, reference_token, count_token, open_token, bar, close}
 use Rattle.re_tree.specs.Grammar.{is_countable, Flags}
 use Rattle.re_tree.specs.Reading.{all_tokens}
 
@@ -42,12 +42,12 @@ regex_of (r also rs) pieces = alternation (snoc (r also rs) (sequence pieces))
 -- what an opening with its branches is; a conditional has at most two
 abbrev pub part_of : Opening → ℕ → ℕ → PlainTexts → PlainTexts → Option PlainText
 part_of (capturing name) begin number branches pieces = Some (capture begin number name (regex_of branches pieces))
-part_of grouping begin number branches pieces = Some (plain begin (regex_of branches pieces))
-part_of keeping begin number branches pieces = Some (atomic_text begin (regex_of branches pieces))
-part_of (looking positive back) begin number branches pieces = Some (look_text begin positive back (regex_of branches pieces))
-part_of (choosing id) begin number done pieces = Some (conditional begin id (sequence pieces))
-part_of (choosing id) begin number (r also done) pieces = Some (conditional_else begin id r (sequence pieces))
-part_of (choosing id) begin number (r also q also rs) pieces = None
+part_of non_capturing begin number branches pieces = Some (plain begin (regex_of branches pieces))
+part_of atomic_opening begin number branches pieces = Some (atomic_text begin (regex_of branches pieces))
+part_of (look_opening positive back) begin number branches pieces = Some (look_text begin positive back (regex_of branches pieces))
+part_of (conditional_opening id) begin number done pieces = Some (conditional begin id (sequence pieces))
+part_of (conditional_opening id) begin number (r also done) pieces = Some (conditional_else begin id r (sequence pieces))
+part_of (conditional_opening id) begin number (r also q also rs) pieces = None
 
 abbrev pub counted_state : ℕ → List Frame → PlainTexts → Option PlainTexts → Option State
 counted_state g outer branches None = None
@@ -97,6 +97,6 @@ abbrev pub tree_of_all : Option (List Token) → Option PlainText
 tree_of_all None = None
 tree_of_all (Some ts) = tree_of_tokens ts
 
--- the tree of a text, or none
+-- the tree of a pattern, or none
 abbrev pub read_tree : Flags → List ℕ → Option PlainText
 read_tree flags text = tree_of_all (all_tokens flags (length text) (length text) text)

@@ -1,4 +1,4 @@
--- Text trees without where they lie in memory.
+-- Pattern trees without where they lie in memory.
 use Rattle.std.specs.Prelude.{ℕ, zero, suc, Bool, true, false, nat_eq, ◌+◌, List, [], ◌∷◌, ◌++◌, Option, Some, None, if◌then◌else◌}
 use lib.Pointwise.{pointwise}
 use Rattle.re_tree.specs.declared.tree.CountMode.{CountMode}
@@ -11,13 +11,13 @@ pub data PlainTest : Type 0 where
   literal : (c : ℕ) → PlainTest
   set : (negated : Bool) (items : List UnitItem) → PlainTest
 
--- how a text names a group
+-- how a pattern names a group
 pub data GroupName : Type 0 where
   numbered : (n : ℕ) → GroupName
   named : (name : List ℕ) → GroupName
 
 infixr 20 ◌also◌
--- A part that has a place in the text has it first. A branch is a sequence, a regex its
+-- A part that has a place in the pattern has it first. A branch is a sequence, a regex its
 -- one branch or an alternation.
 mutual
   pub data PlainText : Type 0 where
@@ -48,7 +48,7 @@ part_at done i = None
 part_at (r also rs) zero = Some r
 part_at (r also rs) (suc i) = part_at rs i
 
--- the named groups with their numbers, in the order of the text
+-- the named groups with their numbers, in the order of the pattern
 abbrev pub Names : Type 0
 Names = List (List ℕ × ℕ)
 
@@ -73,7 +73,7 @@ abbrev mutual
   all_names done = []
   all_names (r also rs) = names_of r ++ all_names rs
 
--- how many groups a text captures
+-- how many groups a pattern captures
 abbrev mutual
   pub captures : PlainText → ℕ
   captures (conditional begin id met) = captures met

@@ -1,14 +1,14 @@
--- How a text is read, a token at a time.
+-- How a pattern is read, a token at a time.
 use Rattle.std.specs.Prelude.{ℕ, zero, suc, ◌+◌, ◌-◌, ◌*◌, ◌==◌, ◌&&◌, Bool, true, false, List, [], ◌∷◌, ◌++◌, length, Option, Some, None, cond}
 use Rattle.re_tree.specs.declared.tree.CountMode.{CountMode}
 use Rattle.re_tree.specs.declared.tree.CountMode.TheVariants.{Greedy, Lazy, Possessive}
 use Rattle.re_tree.specs.declared.unit.UnitItem.TheVariants.{Category}
 use Rattle.re_tree.specs.PlainText.{PlainTest, dot, dot_all, literal, set, GroupName, numbered, named}
-use Rattle.re_tree.specs.Tokens.{Opening, capturing, grouping, keeping, looking, choosing, Token, unit_token, anchor_token, reference_token, count_token, open_token, bar, close}
+use Rattle.re_tree.specs.Tokens.{Opening, capturing, non_capturing, atomic_opening, look_opening, conditional_opening, Token, unit_token, anchor_token, reference_token, count_token, open_token, bar, close}
 use Rattle.py_base.specs.Reading.{find}
-use Rattle.re_tree.specs.Tables.{Sign, escapes, dots, lines, counts, braces, brackets, opens, closes, splits, signs, Letter, is_character_of, digits_follow, categories, anchors, letters, Extension, opens_as, looks_back, has_name, chooses, extensions}
+use Rattle.re_tree.specs.Tables.{Sign, escapes, dots, lines, counts, braces, brackets, opens, closes, splits, signs, Letter, is_character_of, digits_follow, categories, anchors, letters, Extension, opens_as, looks_behind, has_name, is_conditional, extensions}
 use Rattle.re_tree.specs.Sets.{Items, items_at}
-use Rattle.re_tree.specs.Characters.{read_hex, if_flag, is_digit, is_octal, is_punctuation, first_is}
+use Rattle.re_tree.specs.Characters.{read_hex, if_flag, is_digit, is_octal, is_ascii_non_alphanumeric, first_is}
 use Rattle.re_tree.specs.Grammar.{Flags, is_first_digit, value, greatest_of, id_of}
 
 -- a token, and what is left after it
@@ -74,9 +74,9 @@ abbrev pub named_reference : ℕ → Option (List ℕ × List ℕ) → Found
 named_reference p None = None
 named_reference p (Some x) = Some (reference_token p (named x.0), x.1)
 
-abbrev pub named_choice : ℕ → Option (List ℕ × List ℕ) → Found
-named_choice p None = None
-named_choice p (Some x) = Some (open_token p (choosing (id_of x.0)), x.1)
+abbrev pub named_conditional : ℕ → Option (List ℕ × List ℕ) → Found
+named_conditional p None = None
+named_conditional p (Some x) = Some (open_token p (conditional_opening (id_of x.0)), x.1)
 
 -- after `(?P`
 abbrev pub name_token : ℕ → List ℕ → Found
@@ -84,16 +84,16 @@ name_token p [] = None
 name_token p (c ∷ cs) = cond (c == 60) (named_opening p (up_to 62 cs)) (cond (c == 61) (named_reference p (up_to 41 cs)) None)
 
 -- after `(?<`
-abbrev pub back_token : ℕ → List ℕ → Found
-back_token p [] = None
-back_token p (c ∷ cs) = cond (c == 61) (Some (open_token p (looking true true), cs)) (cond (c == 33) (Some (open_token p (looking false true), cs)) None)
+abbrev pub lookbehind_token : ℕ → List ℕ → Found
+lookbehind_token p [] = None
+lookbehind_token p (c ∷ cs) = cond (c == 61) (Some (open_token p (look_opening true true), cs)) (cond (c == 33) (Some (open_token p (look_opening false true), cs)) None)
 
 abbrev pub extension_token : Option Extension → ℕ → List ℕ → Found
 extension_token None p cs = None
 extension_token (Some (opens_as opening)) p cs = Some (open_token p opening, cs)
-extension_token (Some looks_back) p cs = back_token p cs
+extension_token (Some looks_behind) p cs = lookbehind_token p cs
 extension_token (Some has_name) p cs = name_token p cs
-extension_token (Some chooses) p cs = named_choice p (up_to 41 cs)
+extension_token (Some is_conditional) p cs = named_conditional p (up_to 41 cs)
 
 -- after `(?`
 abbrev pub extended : ℕ → List ℕ → Found
@@ -118,7 +118,7 @@ hex_token None = None
 hex_token (Some x) = Some (unit_token (literal x.0), x.1)
 
 abbrev pub letter_token : Option Letter → Flags → ℕ → ℕ → List ℕ → Found
-letter_token None flags p l cs = cond (is_first_digit l) (number_token p l cs) (cond (is_punctuation l) (Some (unit_token (literal l), cs)) None)
+letter_token None flags p l cs = cond (is_first_digit l) (number_token p l cs) (cond (is_ascii_non_alphanumeric l) (Some (unit_token (literal l), cs)) None)
 letter_token (Some (is_character_of c)) flags p l cs = Some (unit_token (literal c), cs)
 letter_token (Some (digits_follow n)) flags p l cs = hex_token (read_hex n 0 cs)
 letter_token (Some (categories a b)) flags p l cs = Some (unit_token (set false (Category (if_flag (flags.ascii) b a) ∷ [])), cs)
@@ -151,10 +151,24 @@ sign_token (Some opens) flags p c cs = opening_token p cs
 sign_token (Some closes) flags p c cs = Some (close, cs)
 sign_token (Some splits) flags p c cs = Some (bar, cs)
 
--- the token at the front of the text, whose place is p
-abbrev pub next_token : Flags → ℕ → List ℕ → Found
-next_token flags p [] = None
-next_token flags p (c ∷ cs) = sign_token (find signs c) flags p c cs
+-- the token at the front of the text, whose place is p, where it has one
+abbrev pub front_token : Flags → ℕ → List ℕ → Found
+front_token flags p [] = None
+front_token flags p (c ∷ cs) = sign_token (find signs c) flags p c cs
+
+-- what is next in a pattern
+pub data Lexed : Type 0 where
+  lexed : (token : Token) (rest : List ℕ) → Lexed
+  at_end : Lexed
+  no_token : Lexed
+
+abbrev pub lexed_as : Found → Lexed
+lexed_as None = no_token
+lexed_as (Some x) = lexed x.0 x.1
+
+abbrev pub next_token : Flags → ℕ → List ℕ → Lexed
+next_token flags p [] = at_end
+next_token flags p (c ∷ cs) = lexed_as (front_token flags p (c ∷ cs))
 
 abbrev pub put_token : Token → Option (List Token) → Option (List Token)
 put_token t None = None
@@ -165,8 +179,8 @@ abbrev pub token_then : Found → (List ℕ → Option (List Token)) → Option 
 token_then None f = None
 token_then (Some x) f = put_token x.0 (f x.1)
 
--- all tokens of a text that has at most n of them, and ends at the place `whole`
+-- all tokens of a pattern that has at most n of them, and ends at the place `whole`
 abbrev pub all_tokens : Flags → ℕ → ℕ → List ℕ → Option (List Token)
 all_tokens flags whole n [] = Some []
 all_tokens flags whole zero (c ∷ cs) = None
-all_tokens flags whole (suc n) (c ∷ cs) = token_then (next_token flags (whole - length (c ∷ cs)) (c ∷ cs)) (all_tokens flags whole n)
+all_tokens flags whole (suc n) (c ∷ cs) = token_then (front_token flags (whole - length (c ∷ cs)) (c ∷ cs)) (all_tokens flags whole n)

@@ -61,7 +61,7 @@ empty_row = refl
 pub open_row : read_tree plainly (codes "(a") ≡ None
 open_row = refl
 
--- what is said of a text by its tree
+-- what is said of a pattern by its tree
 abbrev says : List ℕ → Option (Option Fault)
 says text = verdict_of (read_tree plainly text)
 
@@ -168,7 +168,7 @@ even_row = refl
 pub grammar_row : says (codes "\\1a{3,2}**") ≡ None
 grammar_row = refl
 
--- k parentheses inside one another, with a text inside
+-- k parentheses inside one another, with a pattern inside
 abbrev nested : ℕ → List ℕ → List ℕ
 nested zero text = text
 nested (suc k) text = 40 ∷ (nested k text ++ 41 ∷ [])

@@ -5,7 +5,7 @@ use Rattle.re_tree.specs.declared.unit.UnitItem.{UnitItem}
 use Rattle.re_tree.specs.declared.unit.UnitItem.TheVariants.{Literal, Span, Category}
 use Rattle.py_base.specs.Reading.{find}
 use Rattle.re_tree.specs.Tables.{Letter, is_character_of, digits_follow, categories, anchors, letters}
-use Rattle.re_tree.specs.Characters.{hex_from, is_character, read_hex, if_flag, first_is, is_punctuation}
+use Rattle.re_tree.specs.Characters.{hex_from, is_character, read_hex, if_flag, first_is, is_ascii_non_alphanumeric}
 
 -- a character of a set: any but `\`, `]` and `-`, or an escape; `]` where it comes first, and `-`
 -- where it comes first or last
@@ -16,7 +16,7 @@ pub data WritesMember (first : Bool) (c : ℕ) (written rest : List ℕ) : Type 
   dash : (first || first_is (λ d. d == 93) rest) ≡ true → c ≡ 45 → written ≡ 45 ∷ []
       → WritesMember first c written rest
   backspace : c ≡ 8 → written ≡ 92 ∷ 98 ∷ [] → WritesMember first c written rest
-  punctuation : is_punctuation c ≡ true → written ≡ 92 ∷ c ∷ [] → WritesMember first c written rest
+  escaped_itself : is_ascii_non_alphanumeric c ≡ true → written ≡ 92 ∷ c ∷ [] → WritesMember first c written rest
   lettered : (l : ℕ) → find letters l ≡ Some (is_character_of c) → written ≡ 92 ∷ l ∷ []
       → WritesMember first c written rest
   hexadecimal : (l n : ℕ) (ds : List ℕ) → find letters l ≡ Some (digits_follow n) → length ds ≡ n
@@ -56,7 +56,7 @@ abbrev pub Member : Type 0
 Member = Option (ℕ × List ℕ)
 
 abbrev pub letter_member : Option Letter → ℕ → List ℕ → Member
-letter_member None l cs = cond (is_punctuation l) (Some (l, cs)) None
+letter_member None l cs = cond (is_ascii_non_alphanumeric l) (Some (l, cs)) None
 letter_member (Some (is_character_of c)) l cs = Some (c, cs)
 letter_member (Some (digits_follow n)) l cs = read_hex n 0 cs
 letter_member (Some (categories a b)) l cs = None

@@ -1,4 +1,4 @@
--- A text is stored as a tree of numbers.
+-- A tree is stored as numbers. The proofs that it comes back are here, for the Models cite them.
 use mathlib.Core.Path.{◌≡◌, refl, sym, ◌∙◌, ap}
 use Rattle.std.specs.Prelude.{ℕ, zero, suc, Bool, true, false, List, [], ◌∷◌, Option, Some, None}
 use base.Stored.{Gv, gnil, gnum, gcons, Coded}

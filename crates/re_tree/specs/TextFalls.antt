@@ -1,4 +1,4 @@
--- Each text inside a text is smaller.
+-- Each tree inside a tree is smaller. The proofs are here, for the Models cite them.
 use Rattle.std.specs.Prelude.{◌≤◌, ◌+◌, List, [], ◌∷◌, Some, None}
 use Rattle.std.proofs.Common.{arith}
 use denote.Param.Weighed.{most}

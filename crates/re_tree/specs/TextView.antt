@@ -1,4 +1,4 @@
--- The plain text that a text tree is.
+-- The plain tree that a tree in memory is.
 use Rattle.std.specs.Prelude.{ℕ, ◌+◌, max, List, [], ◌∷◌, Option, Some, None}
 use Rattle.re_tree.specs.declared.unit.UnitTest.{UnitTest}
 use Rattle.re_tree.specs.declared.unit.UnitTest.TheVariants.{Any, AnyAll, Literal, Set}

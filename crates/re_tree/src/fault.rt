@@ -1,4 +1,4 @@
-//! What is wrong with a text that has a tree.
+//! What is wrong with a pattern that has a tree.
 
 /// What is wrong. Of two faults at one place the one that is first here is answered.
 #[derive(Clone, Copy, PartialEq, Eq, Debug)]

@@ -1,6 +1,6 @@
-//! How a text is read.
+//! How a pattern is read.
 
-/// How a text is read.
+/// How a pattern is read.
 #[derive(Clone, Copy, PartialEq, Eq, Debug)]
 pub struct TextFlags {
     /// Whether categories and word boundaries are those of ASCII.

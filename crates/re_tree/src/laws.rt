@@ -1,4 +1,4 @@
-//! Laws of texts and their trees.
+//! Laws of patterns and their trees.
 
 ghost use Rattle.re_tree.specs.Laws.{NoTokensOfTwoTrees, OneTreeForOneText, ReadingIsTheGrammar};
 
@@ -7,12 +7,12 @@ pub fn one_tree_for_tokens()
     ensures { NoTokensOfTwoTrees }
 {}
 
-/// One text and flags read as at most one tree.
+/// One pattern and flags read as at most one tree.
 pub fn one_tree_for_one_text()
     ensures { OneTreeForOneText }
 {}
 
-/// The function that reads a text gives a tree exactly where the grammar does, and that one.
+/// The function that reads a pattern gives a tree exactly where the grammar does, and that one.
 pub fn reading_is_the_grammar()
     ensures { ReadingIsTheGrammar }
 {}

@@ -1,10 +1,12 @@
-//! The tree of a regular expression's text, the grammar that a text and its tree belong to, and
-//! what can be wrong with a text that has a tree.
+//! The tree of a pattern, the grammar that a pattern and its tree belong to, and what can be wrong
+//! with a pattern that has a tree.
 #![tactic(auto)]
 
+pub mod anchors;
 mod fault;
 mod flags;
 pub mod laws;
+pub mod limits;
 mod tree;
 mod unit;
 

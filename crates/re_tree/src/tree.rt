@@ -1,4 +1,4 @@
-//! The tree of a text.
+//! The tree of a pattern.
 
 ghost use Rattle.std.specs.Prelude.{◌≡◌, IfOk};
 ghost use Rattle.std.specs.Option.{option_copied, option_map};
@@ -22,7 +22,7 @@ pub enum CountMode {
     Possessive,
 }
 
-/// How a text names a group.
+/// How a pattern names a group.
 #[derive(Debug, Drop)]
 pub enum GroupId {
     /// By its number.
@@ -31,8 +31,8 @@ pub enum GroupId {
     Name(PyStr),
 }
 
-/// One part of a text. `at` is the place, in code points, of the parenthesis, backslash or count that
-/// begins the part.
+/// One part of a pattern. `at` is the place, in code points, of the parenthesis, backslash or count
+/// that begins the part.
 #[derive(Debug, Drop)]
 #[cycle(text_tree)]
 pub enum TextTree {

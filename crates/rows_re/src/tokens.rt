@@ -1,6 +1,6 @@
-//! How many tokens a text has, and where the grammar has none.
+//! How many tokens a pattern has, and where the grammar has none.
 
-use re_parse::{Token, next_token};
+use re_parse::{Lexed, Token, next_token};
 use re_tree::TextFlags;
 use std::alloc::{AllocError, Global};
 
@@ -25,8 +25,9 @@ fn count(alloc: Global, text: &[char]) -> Result<Option<usize>, AllocError> {
     for tokens in 0..text.len() {
         let begin = text.len().saturating_sub(rest.len());
         match next_token(alloc, FLAGS, begin, rest)? {
-            None => return Ok(if rest.is_empty() { Some(tokens) } else { None }),
-            Some((_token, after)) => rest = after,
+            Lexed::End => return Ok(Some(tokens)),
+            Lexed::NoToken => return Ok(None),
+            Lexed::Token(_token, after) => rest = after,
         }
     }
     Ok(Some(text.len()))
@@ -74,5 +75,33 @@ fn long(rt: HostRuntime) -> Result<(), AllocError> {
     }
     text.push('}')?;
     assert_eq!(rt; count(rt.alloc(), &text)?, Some(2));
+    Ok(())
+}
+
+// The bounds of the count at the front, where 32 bits hold them.
+fn bounds(alloc: Global, text: &str) -> Result<(Option<u32>, Option<u32>), AllocError> {
+    let all = characters(alloc, text)?;
+    match next_token(alloc, FLAGS, 0, &all)? {
+        Lexed::Token(Token::Count(_, least, Some(most), _), _) => {
+            Ok((least.to_u32(), most.to_u32()))
+        }
+        _ => Ok((None, None)),
+    }
+}
+
+#[test]
+fn bounds_of_counts(rt: HostRuntime) -> Result<(), AllocError> {
+    assert_eq!(rt;
+        [
+            bounds(rt.alloc(), "{007,4294967295}")?,
+            bounds(rt.alloc(), "{4294967296,8}")?,
+            bounds(rt.alloc(), "?")?,
+        ],
+        [
+            (Some(7), Some(4294967295)),
+            (None, Some(8)),
+            (Some(0), Some(1))
+        ]
+    );
     Ok(())
 }

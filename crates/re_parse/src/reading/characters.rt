@@ -25,8 +25,8 @@ fn is_letter(c: char) -> bool
     ('A' <= c && c <= 'Z') || ('a' <= c && c <= 'z')
 }
 
-pub(crate) fn is_punctuation(c: char) -> bool
-    ensures { result ≡ spec.is_punctuation c }
+pub(crate) fn is_ascii_non_alphanumeric(c: char) -> bool
+    ensures { result ≡ spec.is_ascii_non_alphanumeric c }
 {
     (c as u32) < 128 && !is_digit(c) && !is_letter(c)
 }

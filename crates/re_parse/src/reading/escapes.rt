@@ -16,7 +16,7 @@ ghost use Rattle.re_parse.specs.TokenView.{token_of, Reads};
 
 use crate::number::Number;
 use crate::reading::Found;
-use crate::reading::characters::{hex, is_digit, is_octal, is_punctuation};
+use crate::reading::characters::{hex, is_ascii_non_alphanumeric, is_digit, is_octal};
 use crate::reading::letters::{Letter, letter_at, number};
 use crate::token::{GroupName, Token};
 use re_tree::{TextFlags, UnitItem, UnitItems, UnitTest};
@@ -67,7 +67,7 @@ fn other(alloc: Global, flags: TextFlags, begin: usize, l: char, rest: &[char]) 
     if is_first_digit(l) {
         return reference_from(alloc, begin, l, rest);
     }
-    if is_punctuation(l) {
+    if is_ascii_non_alphanumeric(l) {
         return Ok(Some((Token::Unit(UnitTest::Literal(l)), rest)));
     }
     Ok(None)
@@ -98,7 +98,7 @@ fn escaped(alloc: Global, flags: TextFlags, begin: usize, l: char, rest: &[char]
             Ok(Some((Token::Unit(test), rest)))
         }
         Some(Letter::Anchor(any, ascii)) => {
-            Ok(Some((Token::Place(number(flags.ascii, any, ascii)), rest)))
+            Ok(Some((Token::Anchor(number(flags.ascii, any, ascii)), rest)))
         }
     }
 }

@@ -7,6 +7,15 @@ ghost use Rattle.re_tree.specs.Characters.{if_flag};
 ghost use Rattle.re_tree.specs.Tables.{letters};
 ghost use Rattle.re_parse.specs.TokenView.{letter_of};
 
+use py_base::{
+    CATEGORY_DIGIT, CATEGORY_NOT_DIGIT, CATEGORY_NOT_SPACE, CATEGORY_NOT_WORD, CATEGORY_SPACE,
+    CATEGORY_UNI_DIGIT, CATEGORY_UNI_NOT_DIGIT, CATEGORY_UNI_NOT_SPACE, CATEGORY_UNI_NOT_WORD,
+    CATEGORY_UNI_SPACE, CATEGORY_UNI_WORD, CATEGORY_WORD,
+};
+use re_tree::anchors::{
+    AT_BEGINNING, AT_BOUNDARY, AT_END_STRING, AT_NON_BOUNDARY, AT_UNI_BOUNDARY, AT_UNI_NON_BOUNDARY,
+};
+
 /// What a letter after a backslash is. Of two numbers the second is for `ascii`.
 #[derive(Clone, Copy, PartialEq, Eq, Debug)]
 pub(crate) enum Letter {
@@ -33,16 +42,16 @@ pub(crate) fn letter_at(l: char) -> Option<Letter>
         'x' => Some(Letter::Digits(2)),
         'u' => Some(Letter::Digits(4)),
         'U' => Some(Letter::Digits(8)),
-        'd' => Some(Letter::Category(10, 0)),
-        'D' => Some(Letter::Category(11, 1)),
-        's' => Some(Letter::Category(12, 2)),
-        'S' => Some(Letter::Category(13, 3)),
-        'w' => Some(Letter::Category(14, 4)),
-        'W' => Some(Letter::Category(15, 5)),
-        'A' => Some(Letter::Anchor(0, 0)),
-        'Z' => Some(Letter::Anchor(7, 7)),
-        'b' => Some(Letter::Anchor(10, 3)),
-        'B' => Some(Letter::Anchor(11, 4)),
+        'd' => Some(Letter::Category(CATEGORY_UNI_DIGIT, CATEGORY_DIGIT)),
+        'D' => Some(Letter::Category(CATEGORY_UNI_NOT_DIGIT, CATEGORY_NOT_DIGIT)),
+        's' => Some(Letter::Category(CATEGORY_UNI_SPACE, CATEGORY_SPACE)),
+        'S' => Some(Letter::Category(CATEGORY_UNI_NOT_SPACE, CATEGORY_NOT_SPACE)),
+        'w' => Some(Letter::Category(CATEGORY_UNI_WORD, CATEGORY_WORD)),
+        'W' => Some(Letter::Category(CATEGORY_UNI_NOT_WORD, CATEGORY_NOT_WORD)),
+        'A' => Some(Letter::Anchor(AT_BEGINNING, AT_BEGINNING)),
+        'Z' => Some(Letter::Anchor(AT_END_STRING, AT_END_STRING)),
+        'b' => Some(Letter::Anchor(AT_UNI_BOUNDARY, AT_BOUNDARY)),
+        'B' => Some(Letter::Anchor(AT_UNI_NON_BOUNDARY, AT_NON_BOUNDARY)),
         _ => None,
     }
 }

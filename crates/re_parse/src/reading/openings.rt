@@ -4,7 +4,7 @@ ghost use Rattle.std.specs.Prelude.{◌≡◌, Some};
 ghost use Rattle.py_base.specs.Reading.{find};
 ghost use Rattle.re_tree.specs.Reading as spec;
 ghost use Rattle.re_tree.specs.Tables.{extensions};
-ghost use Rattle.re_tree.specs.Tokens.{open_token};
+ghost use Rattle.re_tree.specs.Tokens.{look_opening, open_token};
 ghost use Rattle.re_parse.specs.TokenView.{opening_of, Reads};
 
 use crate::reading::Found;
@@ -19,13 +19,20 @@ fn open(begin: usize, opening: Opening, rest: &[char]) -> Found
     Ok(Some((Token::Open(begin, opening), rest)))
 }
 
+// A lookaround.
+fn look(begin: usize, positive: bool, behind: bool, rest: &[char]) -> Found
+    ensures { Reads (Some (open_token begin (look_opening positive behind), rest.now)) result }
+{
+    open(begin, Opening::Look { positive, behind }, rest)
+}
+
 // A lookbehind, after `(?<`.
-fn looking_back(begin: usize, text: &[char]) -> Found
-    ensures { Reads (spec.back_token begin text.now) result }
+fn lookbehind(begin: usize, text: &[char]) -> Found
+    ensures { Reads (spec.lookbehind_token begin text.now) result }
 {
     match text {
-        ['=', rest @ ..] => open(begin, Opening::Looking(true, true), rest),
-        ['!', rest @ ..] => open(begin, Opening::Looking(false, true), rest),
+        ['=', rest @ ..] => look(begin, true, true, rest),
+        ['!', rest @ ..] => look(begin, false, true, rest),
         _ => Ok(None),
     }
 }
@@ -72,11 +79,15 @@ fn named(alloc: Global, begin: usize, text: &[char]) -> Found
 
 // A conditional, after `(?(`.
 fn conditional(alloc: Global, begin: usize, text: &[char]) -> Found
-    ensures { Reads (spec.named_choice begin (spec.up_to 41 text.now)) result }
+    ensures { Reads (spec.named_conditional begin (spec.up_to 41 text.now)) result }
 {
     match up_to(')', text) {
         None => Ok(None),
-        Some((characters, rest)) => open(begin, Opening::Choosing(group(alloc, characters)?), rest),
+        Some((characters, rest)) => open(
+            begin,
+            Opening::Conditional(group(alloc, characters)?),
+            rest,
+        ),
     }
 }
 
@@ -85,11 +96,11 @@ fn extension(alloc: Global, begin: usize, c: char, rest: &[char]) -> Found
     ensures { Reads (spec.extension_token (find extensions c) begin rest.now) result }
 {
     match c {
-        ':' => open(begin, Opening::Grouping, rest),
-        '>' => open(begin, Opening::Keeping, rest),
-        '=' => open(begin, Opening::Looking(true, false), rest),
-        '!' => open(begin, Opening::Looking(false, false), rest),
-        '<' => looking_back(begin, rest),
+        ':' => open(begin, Opening::NonCapturing, rest),
+        '>' => open(begin, Opening::Atomic, rest),
+        '=' => look(begin, true, false, rest),
+        '!' => look(begin, false, false, rest),
+        '<' => lookbehind(begin, rest),
         'P' => named(alloc, begin, rest),
         '(' => conditional(alloc, begin, rest),
         _ => Ok(None),

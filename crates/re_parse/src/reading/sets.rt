@@ -10,7 +10,7 @@ ghost use Rattle.re_tree.specs.Tables.{letters};
 ghost use Rattle.re_parse.specs.TokenView.{rest_of, set_at, Reads};
 
 use crate::reading::Found;
-use crate::reading::characters::{hex, is_punctuation};
+use crate::reading::characters::{hex, is_ascii_non_alphanumeric};
 use crate::reading::letters::{Letter, letter_at, number};
 use crate::token::Token;
 use re_tree::{TextFlags, UnitItem, UnitItems, UnitTest};
@@ -32,7 +32,7 @@ fn escaped(l: char, rest: &[char]) -> Option<(char, &[char])>
 {
     match letter_at(l) {
         None => {
-            if is_punctuation(l) {
+            if is_ascii_non_alphanumeric(l) {
                 Some((l, rest))
             } else {
                 None

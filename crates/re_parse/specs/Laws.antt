@@ -1,0 +1,10 @@
+-- The law of the first pass over a pattern.
+use Rattle.std.specs.Prelude.{◌≡◌, List, ℕ}
+use Rattle.re_tree.specs.Grammar.{Flags}
+use Rattle.re_tree.specs.Machine.{read_tree}
+use Rattle.re_tree.specs.Faults.{verdict_of}
+use Rattle.re_parse.specs.FirstPass.{first_pass}
+
+abbrev pub TheFirstPassJudges : Type 0
+TheFirstPassJudges = (text : List ℕ) (flags : Flags)
+    → first_pass flags text ≡ verdict_of (read_tree flags text)

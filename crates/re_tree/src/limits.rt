@@ -1,0 +1,10 @@
+//! The limits of a pattern that is compiled.
+
+/// Inside how many parentheses one may be.
+pub const MAX_PARENTHESES: usize = 60;
+/// The greatest number of groups.
+pub const MAX_GROUPS: usize = 65_535;
+/// The greatest count. The number after it is in a code no count, but says that there is no most.
+pub const MAX_COUNT: u32 = 4_294_967_294;
+/// The greatest width of a lookbehind.
+pub const MAX_WIDTH: u32 = 4_294_967_295;
