@@ -70,11 +70,11 @@ tree_row = refl
 -- the numbers of anchors and the limits of a pattern are those of a code
 pub anchors_row :
     (here.AT_BEGINNING ∷ here.AT_BEGINNING_LINE ∷ here.AT_BOUNDARY
-      ∷ here.AT_NON_BOUNDARY ∷ here.AT_END ∷ here.AT_END_LINE ∷ here.AT_END_STRING
-      ∷ here.AT_UNI_BOUNDARY ∷ here.AT_UNI_NON_BOUNDARY ∷ [])
+    ∷ here.AT_NON_BOUNDARY ∷ here.AT_END ∷ here.AT_END_LINE ∷ here.AT_END_STRING
+    ∷ here.AT_UNI_BOUNDARY ∷ here.AT_UNI_NON_BOUNDARY ∷ [])
     ≡ (code.AT_BEGINNING ∷ code.AT_BEGINNING_LINE ∷ code.AT_BOUNDARY
-      ∷ code.AT_NON_BOUNDARY ∷ code.AT_END ∷ code.AT_END_LINE ∷ code.AT_END_STRING
-      ∷ code.AT_UNI_BOUNDARY ∷ code.AT_UNI_NON_BOUNDARY ∷ [])
+    ∷ code.AT_NON_BOUNDARY ∷ code.AT_END ∷ code.AT_END_LINE ∷ code.AT_END_STRING
+    ∷ code.AT_UNI_BOUNDARY ∷ code.AT_UNI_NON_BOUNDARY ∷ [])
 anchors_row = refl
 
 pub groups_row : limit.MAX_GROUPS ≡ code.MAXGROUPS

@@ -1,8 +1,8 @@
 //! Texts put in a pool and looked up, and a copy that grows alone.
 
 use py_base::{PyError, PyResult};
-use py_intern::{InternableString, StringPool, as_interned_str};
 use py_int::PyInt;
+use py_intern::{InternableString, StringPool, as_interned_str};
 use py_text::PyStr;
 use py_value::Value;
 use std::alloc::Global;
