@@ -78,13 +78,19 @@ fn long(rt: HostRuntime) -> Result<(), AllocError> {
     Ok(())
 }
 
-// The bounds of the count at the front, where 32 bits hold them.
+// The bounds of a count, where 32 bits hold them.
+fn bounds_of(token: &Token) -> (Option<u32>, Option<u32>) {
+    match token {
+        Token::Count(_, least, Some(most), _) => (least.to_u32(), most.to_u32()),
+        _ => (None, None),
+    }
+}
+
+// The bounds of the count that comes first.
 fn bounds(alloc: Global, text: &str) -> Result<(Option<u32>, Option<u32>), AllocError> {
     let all = characters(alloc, text)?;
     match next_token(alloc, FLAGS, 0, &all)? {
-        Lexed::Token(Token::Count(_, least, Some(most), _), _) => {
-            Ok((least.to_u32(), most.to_u32()))
-        }
+        Lexed::Token(token, _) => Ok(bounds_of(&token)),
         _ => Ok((None, None)),
     }
 }
