@@ -72,15 +72,28 @@ fn owned_and_borrowed(rt: HostRuntime) -> Result<(), PyError> {
     Ok(())
 }
 
+// Whether both values are texts, and the same.
+fn are_one_text(a: &Value, b: &Value) -> bool {
+    match a {
+        Value::Str(a) => match b {
+            Value::Str(b) => a == b,
+            _ => false,
+        },
+        _ => false,
+    }
+}
+
 // The place of a value whose handle gives it again, 9 where the pool has it not, and 8 where the
 // handle gives another.
 fn given_again(alloc: Global, pool: &StringPool, value: &Value) -> PyResult<usize> {
     let Some(handle) = as_interned_str(value, pool) else {
         return Ok(9);
     };
-    match (value, pool.to_object(alloc, handle)?) {
-        (Value::Str(text), Value::Str(copy)) if copy == *text => Ok(handle.place()),
-        _ => Ok(8),
+    let object = pool.to_object(alloc, handle)?;
+    if are_one_text(value, &object) {
+        Ok(handle.place())
+    } else {
+        Ok(8)
     }
 }
 

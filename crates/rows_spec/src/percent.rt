@@ -64,25 +64,23 @@ fn fault_of(alloc: Global, template: &str) -> Option<PyError> {
 
 #[test]
 fn places(rt: HostRuntime) -> PyResult<()> {
-    let mut right = 0;
-    for (template, places) in PLACES {
-        if begins_at(rt.alloc(), template, places)? {
-            right += 1;
-        }
+    for (template, places) in &PLACES {
+        let same = begins_at(rt.alloc(), template, places)?;
+        assert_eq!(rt; same, true, "{template}");
     }
-    assert_eq!(rt; right, PLACES.len());
     Ok(())
 }
 
 #[test]
 fn faults(rt: HostRuntime) -> PyResult<()> {
-    let mut right = 0;
     for (template, fault, place) in FAULTS {
-        if fault_of(rt.alloc(), template) == Some(PyError::PercentParse(fault, place)) {
-            right += 1;
-        }
+        let found = fault_of(rt.alloc(), template);
+        assert_eq!(rt;
+            found,
+            Some(PyError::PercentParse(fault, place)),
+            "{template}"
+        );
     }
-    assert_eq!(rt; right, FAULTS.len());
     assert_eq!(rt;
         fault_of(rt.alloc(), "%.2f"),
         Some(PyError::NotCarried(CarryKind::Code('f')))
@@ -92,12 +90,9 @@ fn faults(rt: HostRuntime) -> PyResult<()> {
 
 #[test]
 fn specifiers(rt: HostRuntime) -> PyResult<()> {
-    let mut right = 0;
-    for (template, wanted) in SPECIFIERS {
-        if parse(rt.alloc(), template)?.check_specifiers() == wanted {
-            right += 1;
-        }
+    for (template, wanted) in &SPECIFIERS {
+        let parsed = parse(rt.alloc(), template)?;
+        assert_eq!(rt; parsed.check_specifiers(), *wanted, "{template}");
     }
-    assert_eq!(rt; right, SPECIFIERS.len());
     Ok(())
 }
