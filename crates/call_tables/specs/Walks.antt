@@ -1,5 +1,5 @@
 -- What the calls `reduce` and `iterate` give.
-use Rattle.std.specs.Prelude.{ℕ, zero, suc, pos, ◌++◌, List, [], ◌∷◌, length, Option, Some, None, Result, Ok, Err}
+use Rattle.std.specs.Prelude.{ℕ, zero, suc, pos, List, [], ◌∷◌, length, Option, Some, None, Result, Ok, Err}
 use Rattle.py_text.specs.Iterator.{Position, rest_of, next_of, after_next, moved_to}
 use Rattle.call_tables.specs.declared.fault.Fault.{Fault}
 use Rattle.call_tables.specs.declared.fault.Fault.TheVariants.{BadArguments}

@@ -1,4 +1,4 @@
-use Rattle.std.proofs.Common.{rules, ◌≡◌, OnOk, ◌++◌, ◌∙◌, ap, sym, codes, Some}
+use Rattle.std.proofs.Common.{rules, ◌≡◌, ◌++◌, ◌∙◌, ap, sym, codes, Some}
 use Rattle.std.proofs.lemmas.Str.Pattern.{split_text_parts}
 use Rattle.std.specs.Vec.{vec_items}
 use Rattle.call_tables.specs.Lines.{IsRight}
