@@ -1,5 +1,5 @@
 #!/usr/bin/env python3
-"""Times calls on texts and integers of the program `bench_driver` beside the same calls of CPython.
+"""Times calls on texts, integers and pools of the program `bench_driver` beside the same calls of CPython.
 
     python3 bench/calls.py [CASE ..] [--sizes N ..] [--seconds S] [--runs N] [--program PATH]
     python3 bench/calls.py --instructions [CASE ..] [--sizes N ..] [--jobs N] [--program PATH]
@@ -8,7 +8,7 @@ Build the program first: `cd crates/bench_driver && rt run -- modpow 0 1000`.
 
 Each case is one call, made so often that ours take about S seconds of processor time (0.3). From that the
 time of the same process with no call is taken off: its start, and making the text. CPython makes the same
-calls as often, on the same texts and integers. Both times are those of the whole loop, which adds what the
+calls as often, on the same texts and integers. At least five calls are made, of both. Both times are those of the whole loop, which adds what the
 calls give to a sum, and both sums have to be the same. Of a few runs the shortest counts.
 
 With --instructions both are counted in instructions, by valgrind: those of a process with a few calls less
@@ -52,9 +52,12 @@ WORDS = {
     ),
 }
 TEXT_CALLS = ("find", "count", "startswith", "order", "equality", "replace", "split", "slice", "stepped", "join",
-              "iterate")
+              "iterate", "strip", "center", "zfill", "expandtabs", "repr", "encode", "isalpha")
 NUMBER_CALLS = ("modpow", "divmod", "literal", "repr")
-CASES = (*(f"{call}_{language}" for call in TEXT_CALLS for language in WORDS), *NUMBER_CALLS)
+# The calls on a pool, each with how many texts the pool has.
+POOL_CALLS = {"intern": 100_000, "interned": 100_000, "internnew": 1_000_000}
+CASES = (*(f"{call}_{language}" for call in TEXT_CALLS for language in WORDS), *NUMBER_CALLS, *POOL_CALLS)
+FEWEST = 5  # calls of a run
 
 # A base, a dividend and an integer to be written, each one more at each call.
 FIRST = 12345678901234567890123456789012345678
@@ -88,6 +91,13 @@ def text_calls(call, language, size):
         "stepped": lambda: (sum_of_stepped, text),
         "join": lambda: (sum_of_joined, text.split(), other),
         "iterate": lambda: (sum_of_walks, text),
+        "strip": lambda: (sum_of_stripped, f" {text} "),
+        "center": lambda: (sum_of_centered, text),
+        "zfill": lambda: (sum_of_zero_filled, text),
+        "expandtabs": lambda: (sum_of_expanded, text.replace(" ", "\t")),
+        "repr": lambda: (sum_of_quoted, text),
+        "encode": lambda: (sum_of_encoded, text),
+        "isalpha": lambda: (sum_of_tested, text.replace(" ", "a").replace(",", "b").replace("'", "c")),
     }
     make_sum, *made = makers[call]()
     return lambda times: make_sum(*made, times)
@@ -177,6 +187,93 @@ def sum_of_walks(text, times):
     return total
 
 
+def sum_of_stripped(text, times):
+    total = 0
+    for _ in range(times):
+        total += len(text.strip())
+    return total
+
+
+def sum_of_centered(text, times):
+    total = 0
+    for i in range(times):
+        total += len(text.center(len(text) + 100 + i % 2))
+    return total
+
+
+def sum_of_zero_filled(text, times):
+    total = 0
+    for i in range(times):
+        total += len(text.zfill(len(text) + 100 + i % 2))
+    return total
+
+
+def sum_of_expanded(text, times):
+    total = 0
+    for i in range(times):
+        total += len(text.expandtabs(8 + i % 2))
+    return total
+
+
+def sum_of_quoted(text, times):
+    total = 0
+    for _ in range(times):
+        total += len(repr(text))
+    return total
+
+
+def sum_of_encoded(text, times):
+    total = 0
+    for _ in range(times):
+        total += len(text.encode("utf-8"))
+    return total
+
+
+def sum_of_tested(letters, times):
+    spaced, total = letters + " ", 0
+    for i in range(times):
+        total += letters.isalpha() if i % 2 == 0 else spaced.isalpha()
+    return total
+
+
+def identifiers(size):
+    return [f"name_{number}" for number in range(size)]
+
+
+def pool_calls(call, size):
+    """A function that makes so many calls on a pool of so many identifiers, and gives the sum."""
+    if call == "internnew":
+        return lambda times: sum_of_new(size, times)
+    places = {sys.intern(name): place for place, name in enumerate(identifiers(size))}
+    names = identifiers(size)  # the same in other places of memory; CPython keeps the hash of each
+    return lambda times: (sum_of_interned if call == "intern" else sum_of_looked_up)(places, names, times)
+
+
+def sum_of_interned(places, names, times):
+    total, size, numbers = 0, len(names), list(places.values())
+    for i in range(times):
+        sys.intern(names[i % size])
+        total += numbers[i % size]
+    return total
+
+
+def sum_of_looked_up(places, names, times):
+    total, size = 0, len(names)
+    for i in range(times):
+        total += places[names[i % size]]
+    return total
+
+
+def sum_of_new(size, times):
+    """Each call interns new texts and lets them go again."""
+    total = 0
+    for _ in range(times):
+        kept = [sys.intern(f"name_{number}") for number in range(size)]
+        total += len(kept)
+        del kept
+    return total
+
+
 def sum_of_powers(times):
     total = 0
     for i in range(times):
@@ -185,10 +282,12 @@ def sum_of_powers(times):
 
 
 def sum_of_quotients(times):
-    total = 0
-    for i in range(times):
-        quotient, remainder = divmod(FIRST + i, DIVISOR)
-        total += (quotient & LAST_DIGITS) + (remainder & LAST_DIGITS)
+    """The dividend and the divisor of a call come from the call before it."""
+    total = last = 0
+    for _ in range(times):
+        quotient, remainder = divmod(FIRST + last, DIVISOR + last)
+        last = (quotient & LAST_DIGITS) + (remainder & LAST_DIGITS)
+        total += last
     return total
 
 
@@ -209,6 +308,8 @@ def sum_of_lengths(times):
 def cpython(case, size):
     """A function that makes so many calls of the case in CPython, and gives the sum."""
     numbers = dict(zip(NUMBER_CALLS, (sum_of_powers, sum_of_quotients, sum_of_literals, sum_of_lengths)))
+    if case in POOL_CALLS:
+        return pool_calls(case, size)
     return numbers[case] if case in numbers else text_calls(*case.split("_"), size)
 
 
@@ -236,14 +337,14 @@ def calibrated(program, case, size, seconds):
         taken = run_ours(program, case, size, times)[0] - frame
         if taken >= seconds / 4 or times >= 2**28:
             taken = max(taken, 1e-9)
-            return max(1, min(int(times * seconds / taken), 2**30)), taken / times
+            return max(FEWEST, min(int(times * seconds / taken), 2**30)), taken / times
         times *= 4
 
 
 def measured(asked, case, size):
     """The line of a case: size, calls, nanoseconds a call of both, and whether the sums agree."""
     times, one = calibrated(asked.program, case, size, asked.seconds)
-    if one > 1 and size > 1_000_000:
+    if one > 1 and size > 1_000_000 and case not in POOL_CALLS:
         return measured(asked, case, 1_000_000)
     calls, runs = cpython(case, size), range(asked.runs)
     frame = min(run_ours(asked.program, case, size, 0)[0] for _ in runs)
@@ -302,6 +403,8 @@ def print_instructions(asked):
 
 
 def sizes_of(asked, case):
+    if case in POOL_CALLS:
+        return [POOL_CALLS[case]]
     return [0] if case in NUMBER_CALLS else asked.sizes
 
 

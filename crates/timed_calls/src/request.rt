@@ -1,19 +1,23 @@
 //! What the command line asks for: a call, the size of its text, and how often it is made.
 
+use crate::more_texts::MoreCall;
 use crate::numbers::NumberCall;
+use crate::pools::PoolCall;
 use crate::sample_texts::Language;
 use crate::searches::SearchCall;
 use crate::texts::TextCall;
-use crate::{numbers, searches, texts};
+use crate::{more_texts, numbers, pools, searches, texts};
 use py_base::PyResult;
 use std::alloc::Global;
 
-/// A call on a text in a language, or on integers.
+/// A call on a text in a language, on integers, or on a pool of texts.
 #[derive(Clone, Copy, Debug, PartialEq, Eq)]
 pub enum Call {
     Search(SearchCall, Language),
     OnText(TextCall, Language),
+    More(MoreCall, Language),
     OnNumbers(NumberCall),
+    OnPool(PoolCall),
 }
 
 impl Call {
@@ -22,17 +26,27 @@ impl Call {
         if let Some(call) = NumberCall::of_name(name) {
             return Some(Call::OnNumbers(call));
         }
+        if let Some(call) = PoolCall::of_name(name) {
+            return Some(Call::OnPool(call));
+        }
         let (call, language) = name.split_once('_')?;
-        let language = Language::of_name(language)?;
-        match SearchCall::of_name(call) {
-            Some(call) => Some(Call::Search(call, language)),
-            None => Some(Call::OnText(TextCall::of_name(call)?, language)),
+        Call::on_text(call, Language::of_name(language)?)
+    }
+
+    // The call of a name on a text.
+    fn on_text(name: &str, language: Language) -> Option<Call> {
+        if let Some(call) = SearchCall::of_name(name) {
+            return Some(Call::Search(call, language));
+        }
+        match TextCall::of_name(name) {
+            Some(call) => Some(Call::OnText(call, language)),
+            None => Some(Call::More(MoreCall::of_name(name)?, language)),
         }
     }
 }
 
-/// A call, how many code points its text has (a call on integers has none), and how often it is
-/// made.
+/// A call, how many code points its text has or how many texts its pool (a call on integers has
+/// neither), and how often it is made.
 #[derive(Clone, Copy, Debug, PartialEq, Eq)]
 pub struct Request {
     pub call: Call,
@@ -56,7 +70,9 @@ impl Request {
         match call {
             Call::Search(call, language) => searches::sum(alloc, call, language, size, times),
             Call::OnText(call, language) => texts::sum(alloc, call, language, size, times),
+            Call::More(call, language) => more_texts::sum(alloc, call, language, size, times),
             Call::OnNumbers(call) => numbers::sum(alloc, call, times),
+            Call::OnPool(call) => pools::sum(alloc, call, size, times),
         }
     }
 }

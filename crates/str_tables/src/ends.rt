@@ -1,0 +1,17 @@
+//! Calls with a text or none: those that strip, and `encode`.
+
+use call_tables::{Fault, Outcome, bytes, text};
+use py_str::StrMore;
+use py_text::PyStr;
+use std::alloc::Global;
+
+/// A call of this name with a text, or none.
+pub fn with_text(alloc: Global, name: &str, subject: &PyStr, other: Option<&PyStr>) -> Outcome {
+    match name {
+        "strip" => text(alloc, PyStr::copy_of(alloc, subject.strip(other))),
+        "lstrip" => text(alloc, PyStr::copy_of(alloc, subject.lstrip(other))),
+        "rstrip" => text(alloc, PyStr::copy_of(alloc, subject.rstrip(other))),
+        "encode" => bytes(alloc, subject.encode(alloc, other)),
+        _ => Err(Fault::NoCall),
+    }
+}
