@@ -3,7 +3,7 @@
 ghost use Rattle.std.specs.Prelude.{◌≡◌, ◌<◌, ◌↔◌, IsTrue, OnOk};
 ghost use Rattle.std.specs.Process.{exit_status};
 ghost use Rattle.py_base.specs.Counts.{one_more};
-ghost use Rattle.call_tables.specs.Report.{nothing_told, add_call, next_call, in_call, begin_file, tell_agreeing, tell_differing};
+ghost use Rattle.call_tables.specs.Report.{nothing_told, add_call, next_call, in_call, begin_file, tell_agreeing, tell_differing, and_text, counts_of_all, tell_all};
 
 use std::alloc::{AllocError, Global};
 use std::marker::Model;
@@ -134,10 +134,19 @@ impl Report {
 
     /// Writes the counts of all.
     pub fn end(&mut self) -> Result<(), AllocError>
-        ensures { self.new.all ≡ self.old.all }
+        ensures told { OnOk result (self.new ≡ tell_all self.old) }
+        ensures counts { self.new.all ≡ self.old.all }
+    {
+        self.turn_to("")?;
+        self.add_counts()
+    }
+
+    // Writes the counts of all, as they are.
+    fn add_counts(&mut self) -> Result<(), AllocError>
+        ensures told { OnOk result (self.new ≡ and_text (counts_of_all self.old.all) self.old) }
+        ensures counts { self.new.all ≡ self.old.all }
     {
         let Tally { calls, agreeing } = self.all;
-        self.turn_to("")?;
         write!(self.text, "{agreeing} of {calls} calls agree\n")
     }
 
