@@ -17,8 +17,8 @@ use Rattle.re_tree.specs.Reading.{all_tokens}
 use Rattle.re_tree.specs.Widths.{plus, common, times, width, sum_of_widths, common_width}
 use Rattle.re_tree.specs.Machine.{snoc, Frame, frame, State, state, groups_begun, count_last, regex_of, part_of, counted_state, closed_state, close_frame, step, step_on, run, run_on, finish, tree_of_tokens, tree_of_all, read_tree}
 use Rattle.re_tree.specs.Faults.{Where, outermost, numbers_of, all_numbers, names_at, inside, after, after_all, at_reference, at_opening, at_count, at_close, conditional_of, conditionals, all_conditionals, conditional_faults, faults, faults_in_turn, first_of, fault_of}
-use Rattle.re_parse.specs.FirstPass.{earlier, no_body, with_last, pieces_width, add_shape, next, joined_with, body_width, end_branch, counted_if, counted_shape, construct_of, closed_shape, close_faults, Pass, pass_start, where_of, note, numbers_at, conditionals_at, add_piece, count_last_piece, open_pass, close_with, close_pass, pass_step, pass_step_on, pass_on, verdict_at, pass_end, pass_over, first_pass}
-use Rattle.re_tree.specs.Faults.{Verdict, verdict_of}
+use Rattle.re_parse.specs.FirstPass.{earlier, no_body, with_last, pieces_width, add_shape, next, joined_with, body_width, end_branch, counted_if, counted_shape, construct_of, closed_shape, close_faults, Pass, pass_start, where_of, note, numbers_at, conditionals_at, add_piece, count_last_piece, open_pass, close_with, close_pass, pass_step, pass_step_on, pass_on, first_fault_at, pass_end, pass_over, first_pass}
+use Rattle.re_tree.specs.Faults.{FirstFault, first_fault_of}
 use Rattle.re_parse.proofs.FirstFaultLemmas.{first_append}
 use Rattle.re_parse.proofs.PartLemmas.{count_at_last, no_count_at_last}
 use Rattle.re_tree.proofs.SpelledLemmas.{captures_snoc, regex_captures, runs_on, IsState}
@@ -162,7 +162,7 @@ runs_by [] o = refl
 runs_by (t ∷ ts) o = ap (λ p. pass_on p ts) (step_on_by o t) ∙ runs_by ts (step_on o t)
 
 -- at the end
-ends_as : (ts : List Token) (o : Option State) → run (state 0 [] done done) ts ≡ o → pass_end (in_some pass_of o) ≡ verdict_of (finish o)
+ends_as : (ts : List Token) (o : Option State) → run (state 0 [] done done) ts ≡ o → pass_end (in_some pass_of o) ≡ first_fault_of (finish o)
 ends_as ts None e = refl
 ends_as ts (Some (state g (f ∷ outer) bs ps)) e = refl
 ends_as ts (Some (state g [] bs ps)) e =
@@ -171,9 +171,9 @@ ends_as ts (Some (state g [] bs ps)) e =
     ap Some (sym (first_append (found_in outermost bs ps) (conditional_faults g (all_conditionals bs ++ all_conditionals ps)))
     ∙ (λ i. first_of (sym (regex_found outermost bs ps) i ++ conditional_faults (n i) (sym (regex_choices bs ps) i))))
 
-over_all : (o : Option (List Token)) → pass_over o ≡ verdict_of (tree_of_all o)
+over_all : (o : Option (List Token)) → pass_over o ≡ first_fault_of (tree_of_all o)
 over_all None = refl
 over_all (Some ts) = ap pass_end (runs_by ts (Some (state 0 [] done done))) ∙ ends_as ts (run (state 0 [] done done) ts) refl
 
-pub judges : (text : List ℕ) (flags : Flags) → first_pass flags text ≡ verdict_of (read_tree flags text)
-judges text flags = over_all (all_tokens flags (length text) (length text) text)
+pub finds_the_first_fault : (text : List ℕ) (flags : Flags) → first_pass flags text ≡ first_fault_of (read_tree flags text)
+finds_the_first_fault text flags = over_all (all_tokens flags (length text) (length text) text)

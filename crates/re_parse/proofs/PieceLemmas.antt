@@ -17,8 +17,8 @@ use Rattle.re_tree.specs.Reading.{all_tokens}
 use Rattle.re_tree.specs.Widths.{plus, common, times, width, sum_of_widths, common_width}
 use Rattle.re_tree.specs.Machine.{snoc, Frame, frame, State, state, groups_begun, count_last, regex_of, part_of, counted_state, closed_state, close_frame, step, step_on, run, run_on, finish, tree_of_tokens, tree_of_all, read_tree}
 use Rattle.re_tree.specs.Faults.{Where, outermost, numbers_of, all_numbers, names_at, inside, after, after_all, at_reference, at_opening, at_count, at_close, conditional_of, conditionals, all_conditionals, conditional_faults, faults, faults_in_turn, first_of, fault_of}
-use Rattle.re_parse.specs.FirstPass.{earlier, no_body, with_last, pieces_width, add_shape, next, joined_with, body_width, end_branch, counted_if, counted_shape, construct_of, closed_shape, close_faults, Pass, pass_start, where_of, note, numbers_at, conditionals_at, add_piece, count_last_piece, open_pass, close_with, close_pass, pass_step, pass_step_on, pass_on, verdict_at, pass_end, pass_over, first_pass}
-use Rattle.re_tree.specs.Faults.{Verdict, verdict_of}
+use Rattle.re_parse.specs.FirstPass.{earlier, no_body, with_last, pieces_width, add_shape, next, joined_with, body_width, end_branch, counted_if, counted_shape, construct_of, closed_shape, close_faults, Pass, pass_start, where_of, note, numbers_at, conditionals_at, add_piece, count_last_piece, open_pass, close_with, close_pass, pass_step, pass_step_on, pass_on, first_fault_at, pass_end, pass_over, first_pass}
+use Rattle.re_tree.specs.Faults.{FirstFault, first_fault_of}
 use Rattle.re_parse.proofs.FirstFaultLemmas.{first_append}
 use Rattle.re_parse.proofs.PartLemmas.{count_at_last, no_count_at_last}
 use Rattle.re_tree.proofs.SpelledLemmas.{captures_snoc, regex_captures, runs_on, IsState}

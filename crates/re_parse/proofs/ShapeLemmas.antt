@@ -17,8 +17,8 @@ use Rattle.re_tree.specs.Reading.{all_tokens}
 use Rattle.re_tree.specs.Widths.{plus, common, times, width, sum_of_widths, common_width}
 use Rattle.re_tree.specs.Machine.{snoc, Frame, frame, State, state, groups_begun, count_last, regex_of, part_of, counted_state, closed_state, close_frame, step, step_on, run, run_on, finish, tree_of_tokens, tree_of_all, read_tree}
 use Rattle.re_tree.specs.Faults.{Where, outermost, numbers_of, all_numbers, names_at, inside, after, after_all, at_reference, at_opening, at_count, at_close, conditional_of, conditionals, all_conditionals, conditional_faults, faults, faults_in_turn, first_of, fault_of}
-use Rattle.re_parse.specs.FirstPass.{earlier, no_body, with_last, pieces_width, add_shape, next, joined_with, body_width, end_branch, counted_if, counted_shape, construct_of, closed_shape, close_faults, Pass, pass_start, where_of, note, numbers_at, conditionals_at, add_piece, count_last_piece, open_pass, close_with, close_pass, pass_step, pass_step_on, pass_on, verdict_at, pass_end, pass_over, first_pass}
-use Rattle.re_tree.specs.Faults.{Verdict, verdict_of}
+use Rattle.re_parse.specs.FirstPass.{earlier, no_body, with_last, pieces_width, add_shape, next, joined_with, body_width, end_branch, counted_if, counted_shape, construct_of, closed_shape, close_faults, Pass, pass_start, where_of, note, numbers_at, conditionals_at, add_piece, count_last_piece, open_pass, close_with, close_pass, pass_step, pass_step_on, pass_on, first_fault_at, pass_end, pass_over, first_pass}
+use Rattle.re_tree.specs.Faults.{FirstFault, first_fault_of}
 use Rattle.re_parse.proofs.FirstFaultLemmas.{first_append}
 use Rattle.re_parse.proofs.PartLemmas.{count_at_last, no_count_at_last}
 use Rattle.re_tree.proofs.SpelledLemmas.{captures_snoc, regex_captures, runs_on, IsState}
@@ -70,7 +70,7 @@ last_of (r also done) = Some (shape_of r)
 last_of (r also q also rs) = last_of (q also rs)
 
 abbrev pub body_of : PlainTexts → PlainTexts → Body
-body_of bs ps = record { ended = count_of bs; joined = common_width bs; before = before_of ps; last = last_of ps }
+body_of bs ps = record { branches_ended = count_of bs; common_width = common_width bs; width_before_last = before_of ps; last = last_of ps }
 
 pub last_snoc : (ps : PlainTexts) (r : PlainText) → last_of (snoc ps r) ≡ Some (shape_of r)
 last_snoc done r = refl
@@ -111,10 +111,10 @@ body_width_is done ps = pieces_is ps
 body_width_is (b also bs) ps = ap (joined_with (count_of (b also bs)) (common_width (b also bs))) (pieces_is ps) ∙ sym (joined_snoc (b also bs) (sequence ps))
 
 pub add_is : (bs ps : PlainTexts) (r : PlainText) → body_of bs (snoc ps r) ≡ add_shape (body_of bs ps) (shape_of r)
-add_is bs ps r = λ i. record { ended = count_of bs; joined = common_width bs; before = (before_snoc ps r ∙ sym (pieces_is ps)) i; last = last_snoc ps r i }
+add_is bs ps r = λ i. record { branches_ended = count_of bs; common_width = common_width bs; width_before_last = (before_snoc ps r ∙ sym (pieces_is ps)) i; last = last_snoc ps r i }
 
 pub end_is : (bs ps : PlainTexts) → body_of (snoc bs (sequence ps)) done ≡ end_branch (body_of bs ps)
-end_is bs ps = λ i. record { ended = count_snoc bs (sequence ps) i; joined = (joined_snoc bs (sequence ps) ∙ ap (joined_with (count_of bs) (common_width bs)) (sym (pieces_is ps))) i; before = Some 0; last = None }
+end_is bs ps = λ i. record { branches_ended = count_snoc bs (sequence ps) i; common_width = (joined_snoc bs (sequence ps) ∙ ap (joined_with (count_of bs) (common_width bs)) (sym (pieces_is ps))) i; width_before_last = Some 0; last = None }
 
 -- one part more
 pub names_snoc : (ps : PlainTexts) (r : PlainText) → all_names (snoc ps r) ≡ all_names ps ++ names_of r

@@ -1,4 +1,5 @@
--- The first pass over a pattern: a stack of what is open, with what is needed of the parts, and the first fault so far.
+-- The first pass over a pattern: a stack of what is open, with what is needed of the parts, and the
+-- first fault so far.
 use Rattle.std.specs.Prelude.{ℕ, zero, suc, ◌+◌, Bool, true, false, List, [], ◌∷◌, ◌++◌, length, Option, Some, None}
 use Rattle.re_tree.specs.declared.fault.Fault.{Fault}
 use Rattle.re_tree.specs.declared.fault.FaultKind.TheVariants.{NotFixedWidth}
@@ -15,56 +16,80 @@ use Rattle.re_tree.specs.Grammar.{Flags}
 use Rattle.re_tree.specs.Reading.{all_tokens}
 use Rattle.re_tree.specs.Widths.{plus, common, times}
 use Rattle.re_tree.specs.Machine.{groups_begun}
-use Rattle.re_tree.specs.Faults.{Verdict, Where, names_at, the_first, first_of, at_reference, at_opening, at_count, only_if, is_wide, conditional_of, conditional_faults}
+use Rattle.re_tree.specs.Faults.{FirstFault, Where, names_at, the_first, first_of, at_reference, at_opening, at_count, only_if, is_bad_width, conditional_of, conditional_faults}
 
 -- the earlier of two faults
 abbrev pub earlier : Option Fault → Option Fault → Option Fault
 earlier None y = y
 earlier (Some a) y = the_first a y
 
+-- nothing is read yet: one empty branch
 abbrev pub no_body : Body
-no_body = record { ended = Zero; joined = None; before = Some 0; last = None }
+no_body = record {
+  branches_ended = Zero;
+  common_width = None;
+  width_before_last = Some 0;
+  last = None;
+}
 
+-- the width of pieces, of which the last one is kept apart
 abbrev pub with_last : Option ℕ → Option Shape → Option ℕ
 with_last before None = before
 with_last before (Some s) = plus before s.width
 
+-- the width of all pieces of the branch that is read
 abbrev pub pieces_width : Body → Option ℕ
-pieces_width b = with_last b.before b.last
+pieces_width b = with_last b.width_before_last b.last
 
+-- one piece more
 abbrev pub add_shape : Body → Shape → Body
-add_shape b s = record { ended = b.ended; joined = b.joined; before = pieces_width b; last = Some s }
+add_shape b s = record b { width_before_last = pieces_width b; last = Some s }
 
--- one branch more
+-- zero, one, or more branches have ended
 abbrev pub next : Ended → Ended
 next Zero = One
 next One = More
 next More = More
 
+-- the width that all branches ended so far have in common
 abbrev pub joined_with : Ended → Option ℕ → Option ℕ → Option ℕ
 joined_with Zero j w = w
 joined_with One j w = common j w
 joined_with More j w = common j w
 
+-- the width that all branches have in common, with the one that is read
 abbrev pub body_width : Body → Option ℕ
-body_width b = joined_with b.ended b.joined (pieces_width b)
+body_width b = joined_with b.branches_ended b.common_width (pieces_width b)
 
+-- the pieces are a branch, and the next one is empty
 abbrev pub end_branch : Body → Body
-end_branch b = record { ended = next b.ended; joined = body_width b; before = Some 0; last = None }
+end_branch b = record {
+  branches_ended = next b.branches_ended;
+  common_width = body_width b;
+  width_before_last = Some 0;
+  last = None;
+}
 
+-- a part under a count, where it may have one; no second count may follow
 abbrev pub counted_if : Bool → ℕ → Option ℕ → Option ℕ → Option Shape
 counted_if true least most w = Some (record { countable = false; width = times least most w })
 counted_if false least most w = None
 
+-- the last piece under a count; where there is none it has no tree
 abbrev pub counted_shape : ℕ → Option ℕ → Option Shape → Option Shape
 counted_shape least most None = None
 counted_shape least most (Some s) = counted_if s.countable least most s.width
 
+-- what a conditional is whose body has so many branches before the last one; without a second
+-- branch it may also pass over nothing
 abbrev pub conditional_shape : Ended → Body → Option Shape
-conditional_shape Zero b = Some (record { countable = true; width = common (pieces_width b) (Some 0) })
-conditional_shape One b = Some (record { countable = true; width = common b.joined (pieces_width b) })
+conditional_shape Zero b =
+    Some (record { countable = true; width = common (pieces_width b) (Some 0) })
+conditional_shape One b =
+    Some (record { countable = true; width = common b.common_width (pieces_width b) })
 conditional_shape More b = None
 
+-- what an opening begins
 abbrev pub construct_of : Opening → Construct
 construct_of (capturing name) = Capture
 construct_of non_capturing = Group
@@ -79,58 +104,79 @@ closed_shape Capture b = Some (record { countable = true; width = body_width b }
 closed_shape Group b = Some (record { countable = true; width = body_width b })
 closed_shape Lookahead b = Some (record { countable = false; width = Some 0 })
 closed_shape Lookbehind b = Some (record { countable = false; width = Some 0 })
-closed_shape Conditional b = conditional_shape b.ended b
+closed_shape Conditional b = conditional_shape b.branches_ended b
 
+-- what is wrong at the end of a part: a lookbehind whose body has no width, or one past the limit
 abbrev pub close_faults : ℕ → Construct → Option ℕ → List Fault
-close_faults begin Lookbehind w = only_if (is_wide w) begin NotFixedWidth
+close_faults begin Lookbehind w = only_if (is_bad_width w) begin NotFixedWidth
 close_faults begin _ w = []
 
+-- what the pass keeps between two tokens
 pub record Pass : Type 0 where
+  -- how many groups have begun
   pub groups : ℕ
+  -- what is open, the innermost first
   pub outer : List Opened
+  -- the branches and pieces of the innermost
   pub body : Body
   pub names : Names
+  -- numbers of the groups that have ended
   pub closed : List ℕ
+  -- conditionals by number: their places and numbers
   pub conditionals : List (ℕ × ℕ)
+  -- the first fault so far
   pub first : Option Fault
 
+-- before the first token
 abbrev pub pass_start : Pass
-pass_start = record { groups = 0; outer = []; body = no_body; names = []; closed = []; conditionals = []; first = None }
+pass_start = record {
+  groups = 0;
+  outer = [];
+  body = no_body;
+  names = [];
+  closed = [];
+  conditionals = [];
+  first = None;
+}
 
+-- where the next part is
 abbrev pub where_of : Pass → Where
 where_of p = record { depth = length p.outer; names = p.names; closed = p.closed }
 
+-- the first fault, with those just found
 abbrev pub note : Option Fault → List Fault → Option Fault
 note first found = earlier first (first_of found)
 
+-- the number of the group that ends
 abbrev pub numbers_at : Construct → ℕ → List ℕ
 numbers_at Capture number = number ∷ []
 numbers_at _ number = []
 
+-- a conditional by number, which is tested at the end of the pattern
 abbrev pub conditionals_at : Opening → ℕ → List (ℕ × ℕ)
 conditionals_at (conditional_opening id) begin = conditional_of begin id
 conditionals_at _ begin = []
 
+-- one piece more in the branch that is read
 abbrev pub add_piece : Pass → Shape → Pass
 add_piece p s = record p { body = add_shape p.body s }
 
+-- the last piece under a count, with the faults of the count
 abbrev pub count_last_piece : Pass → List Fault → Option Shape → Option Pass
 count_last_piece p found None = None
 count_last_piece p found (Some s) =
-    Some (record p { body = record { ended = p.body.ended; joined = p.body.joined; before = p.body.before; last = Some s }; first = note p.first found })
+    Some (record p { body = record p.body { last = Some s }; first = note p.first found })
 
--- the groups, names and conditionals with what an opening begins
-abbrev pub kept : Pass → ℕ → ℕ → Opening → Pass
-kept p begin number opening = record p { groups = p.groups + groups_begun opening; names = p.names ++ names_at number opening; conditionals = p.conditionals ++ conditionals_at opening begin }
-
--- the groups that have ended with one that ends
-abbrev pub ended_group : Pass → Construct → ℕ → Pass
-ended_group p construct number = record p { closed = p.closed ++ numbers_at construct number }
-
+-- after an opening: its body is read, and what is around it is kept
 abbrev pub open_pass : Pass → ℕ → Opening → Pass
 open_pass p begin opening = record {
   groups = p.groups + groups_begun opening;
-  outer = record { begin = begin; construct = construct_of opening; number = p.groups + 1; around = p.body } ∷ p.outer;
+  outer = record {
+    begin = begin;
+    construct = construct_of opening;
+    number = p.groups + 1;
+    around = p.body;
+  } ∷ p.outer;
   body = no_body;
   names = p.names ++ names_at (p.groups + 1) opening;
   closed = p.closed;
@@ -138,6 +184,7 @@ open_pass p begin opening = record {
   first = note p.first (at_opening (where_of p) begin (p.groups + 1) opening);
 }
 
+-- after a closing parenthesis: what it closes is one piece more of what is around it
 abbrev pub close_with : Pass → Opened → List Opened → Option Shape → Option Pass
 close_with p f outer None = None
 close_with p f outer (Some s) = Some (record {
@@ -150,40 +197,50 @@ close_with p f outer (Some s) = Some (record {
   first = note p.first (close_faults f.begin f.construct (body_width p.body));
 })
 
+-- after a closing parenthesis, which has to close something
 abbrev pub close_pass : Pass → List Opened → Option Pass
 close_pass p [] = None
 close_pass p (f ∷ outer) = close_with p f outer (closed_shape f.construct p.body)
 
+-- after one token more; none says that the pattern has no tree
 abbrev pub pass_step : Pass → Token → Option Pass
 pass_step p (unit_token test) = Some (add_piece p (record { countable = true; width = Some 1 }))
 pass_step p (anchor_token k) = Some (add_piece p (record { countable = false; width = Some 0 }))
 pass_step p (reference_token begin id) =
-    Some (record (add_piece p (record { countable = true; width = None })) { first = note p.first (at_reference (where_of p) begin id) })
-pass_step p (count_token begin least most mode) = count_last_piece p (at_count begin least most) (counted_shape least most p.body.last)
+    Some (record (add_piece p (record { countable = true; width = None })) {
+      first = note p.first (at_reference (where_of p) begin id);
+    })
+pass_step p (count_token begin least most mode) =
+    count_last_piece p (at_count begin least most) (counted_shape least most p.body.last)
 pass_step p (open_token begin opening) = Some (open_pass p begin opening)
 pass_step p bar = Some (record p { body = end_branch p.body })
 pass_step p close = close_pass p p.outer
 
+-- the same after nothing, where there is no tree already
 abbrev pub pass_step_on : Option Pass → Token → Option Pass
 pass_step_on None t = None
 pass_step_on (Some p) t = pass_step p t
 
+-- after more tokens
 abbrev pub pass_on : Option Pass → List Token → Option Pass
 pass_on o [] = o
 pass_on o (t ∷ ts) = pass_on (pass_step_on o t) ts
 
 -- what the pass says of a pattern: nothing where it is in no tree, and else its first fault
-abbrev pub verdict_at : Pass → List Opened → Verdict
-verdict_at p [] = Some (note p.first (conditional_faults p.groups p.conditionals))
-verdict_at p (f ∷ outer) = None
+abbrev pub first_fault_at : Pass → List Opened → FirstFault
+first_fault_at p [] = Some (note p.first (conditional_faults p.groups p.conditionals))
+first_fault_at p (f ∷ outer) = None
 
-abbrev pub pass_end : Option Pass → Verdict
+-- what the pass says after the last token
+abbrev pub pass_end : Option Pass → FirstFault
 pass_end None = None
-pass_end (Some p) = verdict_at p p.outer
+pass_end (Some p) = first_fault_at p p.outer
 
-abbrev pub pass_over : Option (List Token) → Verdict
+-- what the pass says of tokens
+abbrev pub pass_over : Option (List Token) → FirstFault
 pass_over None = None
 pass_over (Some ts) = pass_end (pass_on (Some pass_start) ts)
 
-abbrev pub first_pass : Flags → List ℕ → Verdict
+-- what the pass says of a text
+abbrev pub first_pass : Flags → List ℕ → FirstFault
 first_pass flags text = pass_over (all_tokens flags (length text) (length text) text)

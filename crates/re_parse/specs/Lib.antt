@@ -1,5 +1,5 @@
-pub mod Amounts
 pub mod Digits
 pub mod FirstPass
 pub mod Laws
 pub mod TokenView
+pub mod Width

@@ -1,4 +1,4 @@
--- The plain token that a token in memory stands for.
+-- The plain token of a token in memory.
 use Rattle.std.specs.Prelude.{◌≡◌, ℕ, Bool, true, List, length, Option, Some, Result, IfOk, String, chars, string_bytes}
 use Rattle.std.specs.Option.{option_map}
 use denote.Bor.{Bor}
@@ -11,8 +11,8 @@ use Rattle.re_tree.specs.Reading.{Found, Lexed, lexed, at_end, no_token, Bounds,
 use Rattle.re_tree.specs.Tables.{Letter, is_character_of, digits_follow, categories, anchors}
 use Rattle.re_parse.specs.declared.reading.letters.Letter.{Letter as LetterInMemory}
 use Rattle.re_parse.specs.declared.reading.letters.Letter.TheVariants.{Character, Digits, Category, Anchor}
-use Rattle.re_parse.specs.declared.token.GroupName.{GroupName as NameInMemory}
-use Rattle.re_parse.specs.declared.token.GroupName.TheVariants.{Number, Name}
+use Rattle.re_parse.specs.declared.token.GroupId.{GroupId as IdInMemory}
+use Rattle.re_parse.specs.declared.token.GroupId.TheVariants.{Number, Name}
 use Rattle.re_parse.specs.declared.token.Opening.{Opening as OpeningInMemory}
 use Rattle.re_parse.specs.declared.token.Opening.TheVariants.{Capturing, NonCapturing, Atomic, Look, Conditional}
 use Rattle.re_parse.specs.declared.token.Lexed.{Lexed as LexedInMemory}
@@ -20,7 +20,7 @@ use Rattle.re_parse.specs.declared.token.Lexed.TheVariants.{Token as TokenNext, 
 use Rattle.re_parse.specs.declared.token.Token.{Token as TokenInMemory}
 use Rattle.re_parse.specs.declared.token.Token.TheVariants.{Unit as UnitToken, Anchor as AnchorToken, Reference, Count, Open, Bar, Close}
 
-abbrev pub group_named : NameInMemory → GroupName
+abbrev pub group_named : IdInMemory → GroupName
 group_named (Number n) = numbered n
 group_named (Name name) = named name
 
@@ -28,7 +28,7 @@ abbrev pub opening_of : OpeningInMemory → Opening
 opening_of (Capturing name) = capturing name
 opening_of NonCapturing = non_capturing
 opening_of Atomic = atomic_opening
-opening_of (Look positive behind) = look_opening positive behind
+opening_of (Look positive back) = look_opening positive back
 opening_of (Conditional id) = conditional_opening (group_named id)
 
 abbrev pub token_of : TokenInMemory → Token

@@ -1,4 +1,4 @@
-//! What parentheses begin, and what it is once it is closed.
+//! The constructs that parentheses begin, and the shape of each once it is closed.
 
 ghost use Rattle.std.specs.Prelude.{◌≡◌, false, Some, IfOk};
 ghost use Rattle.re_parse.specs.FirstPass as spec;
@@ -67,8 +67,8 @@ pub(crate) fn construct_of(opening: &Opening) -> Construct
         Opening::Capturing(_) => Construct::Capture,
         Opening::NonCapturing => Construct::Group,
         Opening::Atomic => Construct::Group,
-        Opening::Look { behind: true, .. } => Construct::Lookbehind,
-        Opening::Look { behind: false, .. } => Construct::Lookahead,
+        Opening::Look { back: true, .. } => Construct::Lookbehind,
+        Opening::Look { back: false, .. } => Construct::Lookahead,
         Opening::Conditional(_) => Construct::Conditional,
     }
 }

@@ -1,9 +1,9 @@
 //! The law of the first pass over a pattern.
 
-ghost use Rattle.re_parse.specs.Laws.{TheFirstPassJudges};
+ghost use Rattle.re_parse.specs.Laws.{FirstPassFindsTheFirstFault};
 
-/// The first pass says of a pattern what its tree says: nothing where it has none, and else its
-/// first fault, if it has one.
-pub fn the_first_pass_judges()
-    ensures { TheFirstPassJudges }
+/// The first pass over a pattern finds what its tree has: nothing where it has no tree, and else
+/// its first fault, if it has one.
+pub fn first_pass_finds_the_first_fault()
+    ensures { FirstPassFindsTheFirstFault }
 {}

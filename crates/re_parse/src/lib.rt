@@ -1,4 +1,5 @@
-//! Reading a pattern, a token at a time.
+//! Reading a pattern, a token at a time, and what a first pass over the tokens needs to find its
+//! first fault. The pass itself is not written yet.
 #![tactic(auto)]
 
 mod construct;
@@ -13,4 +14,4 @@ mod width;
 
 pub use number::Number;
 pub use reading::next_token;
-pub use token::{GroupName, Lexed, Opening, Token};
+pub use token::{GroupId, Lexed, Opening, Token};

@@ -1,4 +1,4 @@
-//! The token at the front of a pattern. There is one function for each construct, named as it is,
+//! The first token of a pattern. There is one function for each construct, named as it is,
 //! and none calls itself.
 
 ghost use Rattle.std.specs.Prelude.{◌≡◌, IfOk};
@@ -27,7 +27,7 @@ use re_tree::anchors::{AT_BEGINNING, AT_BEGINNING_LINE, AT_END, AT_END_LINE};
 use re_tree::{TextFlags, UnitTest};
 use std::alloc::{AllocError, Global};
 
-/// A token, where the grammar has one at the front of the text, and what is left after it.
+/// A token, where the grammar has one at the beginning of the text, and what is left after it.
 pub(crate) type Found<'t> = Result<Option<(Token, &'t [char])>, AllocError>;
 
 // What a dot is.
@@ -69,8 +69,8 @@ fn sign(alloc: Global, flags: TextFlags, begin: usize, c: char, rest: &[char]) -
     }
 }
 
-/// The token at the front of what is left of a pattern, whose first character is at the place
-/// `begin` of the whole.
+/// The first token of what is left of a pattern, whose first character is at the place `begin` of
+/// the whole.
 pub fn next_token(
     alloc: Global,
     flags: TextFlags,

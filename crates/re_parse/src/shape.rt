@@ -32,9 +32,9 @@ pub(crate) struct Shape {
 // width of the pieces before the last one, and the last one.
 #[derive(Debug, Drop)]
 pub(crate) struct Body {
-    pub(crate) ended: Ended,
-    pub(crate) joined: Option<Width>,
-    pub(crate) before: Option<Width>,
+    pub(crate) branches_ended: Ended,
+    pub(crate) common_width: Option<Width>,
+    pub(crate) width_before_last: Option<Width>,
     pub(crate) last: Option<Shape>,
 }
 
@@ -100,9 +100,9 @@ fn times(
     }
 }
 
-// Whether a lookbehind may not have this width.
-pub(crate) fn is_wide(width: &Option<Width>) -> bool
-    ensures { result ≡ faults.is_wide width.now }
+// Whether a lookbehind may not have this width: none, or one past the limit.
+pub(crate) fn is_bad_width(width: &Option<Width>) -> bool
+    ensures { result ≡ faults.is_bad_width width.now }
 {
     match width {
         None => true,
@@ -188,9 +188,9 @@ impl Body {
         ensures { result ≡ no_body }
     {
         Body {
-            ended: Ended::Zero,
-            joined: None,
-            before: Some(Width::new(0)),
+            branches_ended: Ended::Zero,
+            common_width: None,
+            width_before_last: Some(Width::new(0)),
             last: None,
         }
     }
@@ -199,11 +199,11 @@ impl Body {
     pub(crate) fn width(self, alloc: Global) -> Result<Option<Width>, AllocError>
         ensures { IfOk result (λ width. width ≡ spec.body_width self) }
     {
-        let pieces = pieces_width(alloc, self.before, self.last)?;
-        match self.ended {
+        let pieces = pieces_width(alloc, self.width_before_last, self.last)?;
+        match self.branches_ended {
             Ended::Zero => Ok(pieces),
-            Ended::One => common(alloc, self.joined, pieces),
-            Ended::More => common(alloc, self.joined, pieces),
+            Ended::One => common(alloc, self.common_width, pieces),
+            Ended::More => common(alloc, self.common_width, pieces),
         }
     }
 
@@ -212,9 +212,9 @@ impl Body {
         ensures { IfOk result (λ body. body ≡ spec.add_shape self shape) }
     {
         Ok(Body {
-            ended: self.ended,
-            joined: self.joined,
-            before: pieces_width(alloc, self.before, self.last)?,
+            branches_ended: self.branches_ended,
+            common_width: self.common_width,
+            width_before_last: pieces_width(alloc, self.width_before_last, self.last)?,
             last: Some(shape),
         })
     }
@@ -223,23 +223,23 @@ impl Body {
     pub(crate) fn end_branch(self, alloc: Global) -> Result<Body, AllocError>
         ensures { IfOk result (λ body. body ≡ spec.end_branch self) }
     {
-        let ended = self.ended.next();
+        let branches_ended = self.branches_ended.next();
         Ok(Body {
-            ended,
-            joined: self.width(alloc)?,
-            before: Some(Width::new(0)),
+            branches_ended,
+            common_width: self.width(alloc)?,
+            width_before_last: Some(Width::new(0)),
             last: None,
         })
     }
 
     // What a conditional with this body is; it has at most two branches.
     pub(crate) fn conditional(self, alloc: Global) -> Result<Option<Shape>, AllocError>
-        ensures { IfOk result (λ shape. shape ≡ spec.conditional_shape self.ended self) }
+        ensures { IfOk result (λ shape. shape ≡ spec.conditional_shape self.branches_ended self) }
     {
-        let pieces = pieces_width(alloc, self.before, self.last)?;
-        let width = match self.ended {
+        let pieces = pieces_width(alloc, self.width_before_last, self.last)?;
+        let width = match self.branches_ended {
             Ended::Zero => common(alloc, pieces, Some(Width::new(0)))?,
-            Ended::One => common(alloc, self.joined, pieces)?,
+            Ended::One => common(alloc, self.common_width, pieces)?,
             Ended::More => return Ok(None),
         };
         Ok(Some(Shape {

@@ -6,7 +6,7 @@ use re_tree::{CountMode, UnitTest};
 
 /// How a token names a group.
 #[derive(Debug, Drop)]
-pub enum GroupName {
+pub enum GroupId {
     /// By its number.
     Number(Number),
     /// By its name.
@@ -22,10 +22,11 @@ pub enum Opening {
     NonCapturing,
     /// An atomic group.
     Atomic,
-    /// A lookahead or, where `behind`, a lookbehind; a negative one where not `positive`.
-    Look { positive: bool, behind: bool },
+    /// A lookahead or, where `back` is true, a lookbehind. Where `positive` is false, its body must
+    /// not match.
+    Look { positive: bool, back: bool },
     /// A conditional.
-    Conditional(GroupName),
+    Conditional(GroupId),
 }
 
 /// A token. A place is that of its first character, in code points.
@@ -36,7 +37,7 @@ pub enum Token {
     /// An anchor, by its number in `re_tree::anchors`.
     Anchor(u32),
     /// A back reference, at a place.
-    Reference(usize, GroupName),
+    Reference(usize, GroupId),
     /// A count at a place, with the least and the greatest number.
     Count(usize, Number, Option<Number>, CountMode),
     /// An opening parenthesis at a place.

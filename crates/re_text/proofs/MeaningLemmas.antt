@@ -17,7 +17,7 @@ use Rattle.re_tree.specs.declared.tree.CountMode.TheVariants.{Greedy, Lazy, Poss
 use Rattle.re_tree.specs.declared.unit.UnitItem.{UnitItem}
 use Rattle.re_tree.specs.declared.unit.UnitItem.TheVariants.{Literal, Span, Category}
 use Rattle.re_tree.specs.PlainText.{PlainTest, dot, dot_all, literal, set, PlainText, PlainTexts, unit, anchor, reference, conditional, conditional_else, sequence, alternation, counted, capture, plain, atomic_text, look_text, done, ◌also◌, Names, number_of}
-use Rattle.re_text.specs.Outcomes.{Outcome, Onward, here, only_if, each_then, closing, first_of_all, looked, ending_at, from_behind, either_first, times_from, in_mode, optional_count, unit_item_holds, test_holds, once_more, outcomes, outcomes_in_turn, outcomes_of_each}
+use Rattle.re_text.specs.Outcomes.{Outcome, Onward, here, only_if, each_then, with_capture, first_of_all, looked, ending_at, from_behind, either_first, times_from, in_mode, optional_count, unit_item_holds, test_holds, once_more, outcomes, outcomes_in_turn, outcomes_of_each}
 use Rattle.re_tree.specs.Widths.{width}
 use Rattle.re_text.specs.Trees.{set_item, set_items, test_node, kind_of_mode, greatest, back_of, is_one_unit, join, tree_of_text, tree_of_parts, trees_of_branches}
 use Rattle.re_text.specs.Fits.{count_fits, back_fits, text_fits, texts_fit}
@@ -151,7 +151,7 @@ mutual
       ∙ count_means mode (is_one_unit body) least most (tree_of_text names body) (outcomes n names body s) n s h.0 enough (means names groups body h.1 n s enough) p m le
   means names groups (capture begin number name body) h n s enough p m le =
       ap passes (single (PlainNode.group number (tree_of_text names body)) s p m)
-      ∙ passes_captured number p (paths (tree_of_text names body) s p m) ∙ ap (closing number p) (means names groups body h.1 n s enough p m le)
+      ∙ passes_captured number p (paths (tree_of_text names body) s p m) ∙ ap (with_capture number p) (means names groups body h.1 n s enough p m le)
   means names groups (plain begin body) h n s enough p m le = means names groups body h n s enough p m le
   means names groups (atomic_text begin body) h n s enough p m le =
       ap passes (single (PlainNode.atomic (tree_of_text names body)) s p m)

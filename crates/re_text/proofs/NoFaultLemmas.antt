@@ -13,7 +13,7 @@ use Rattle.re_tree.specs.declared.fault.Fault.{Fault}
 use Rattle.re_tree.specs.declared.fault.FaultKind.{FaultKind}
 use Rattle.re_tree.specs.declared.fault.FaultKind.TheVariants.{TooDeep, TooManyGroups, BadName, BadCount, BadReference, NotFixedWidth}
 use Rattle.re_tree.specs.Tokens.{Opening, capturing, non_capturing, atomic_opening, look_opening, conditional_opening}
-use Rattle.re_tree.specs.Faults.{is_identifier, only_if, Where, outermost, has_number, has_name, numbers_of, all_numbers, names_at, inside, after, is_closed, deep, at_reference, of_opening, at_opening, is_bad_count, at_count, is_wide, at_close, faults, faults_in_turn, conditional_of, conditionals, all_conditionals, is_past, conditional_faults, is_before, the_first, first_of, all_faults, fault_of}
+use Rattle.re_tree.specs.Faults.{is_identifier, only_if, Where, outermost, has_number, has_name, numbers_of, all_numbers, names_at, inside, after, is_closed, deep, at_reference, of_opening, at_opening, is_bad_count, at_count, is_bad_width, at_close, faults, faults_in_turn, conditional_of, conditionals, all_conditionals, is_past, conditional_faults, is_before, the_first, first_of, all_faults, fault_of}
 use Rattle.re_text.specs.Fits.{count_fits, back_fits, text_fits, texts_fit, parens, all_parens, kinds_fit, all_kinds_fit}
 
 front_none : (xs ys : List Fault) → xs ++ ys ≡ [] → xs ≡ []

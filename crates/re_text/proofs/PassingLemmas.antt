@@ -5,7 +5,7 @@ use Rattle.sre_match.specs.Attempts.{Attempt, failed, passed, Marks, Next, stay,
 use Rattle.sre_match.specs.Repeats.{is_past, in_turn, optional, repeat_paths}
 use Rattle.sre_match.specs.Paths.{attempt}
 use Rattle.sre_match.proofs.RoomLemmas.{EndsIn, Inside}
-use Rattle.re_text.specs.Outcomes.{Outcome, Onward, here, only_if, each_then, closing, first_of_all, looked, either_first, at_most, times_from}
+use Rattle.re_text.specs.Outcomes.{Outcome, Onward, here, only_if, each_then, with_capture, first_of_all, looked, either_first, at_most, times_from}
 use Rattle.re_text.specs.Laws.{passes}
 
 pub passes_charge : (c : ℕ) (xs : List Attempt) → passes (charge c xs) ≡ passes xs
@@ -34,7 +34,7 @@ passes_cut [] = refl
 passes_cut (failed c ∷ xs) = passes_cut xs
 passes_cut (passed c e m ∷ xs) = refl
 
-pub passes_captured : (g p : ℕ) (xs : List Attempt) → passes (captured_from g p xs) ≡ closing g p (passes xs)
+pub passes_captured : (g p : ℕ) (xs : List Attempt) → passes (captured_from g p xs) ≡ with_capture g p (passes xs)
 passes_captured g p [] = refl
 passes_captured g p (failed c ∷ xs) = passes_captured g p xs
 passes_captured g p (passed c e m ∷ xs) = ap (λ l. (e, m ++ record { group = g; start = p; stop = e } ∷ []) ∷ l) (passes_captured g p xs)

@@ -6,7 +6,7 @@ use Rattle.sre_match.specs.Attempts.{Marks, span_of}
 use Rattle.re_tree.specs.declared.tree.CountMode.{CountMode}
 use Rattle.re_tree.specs.declared.tree.CountMode.TheVariants.{Greedy, Lazy, Possessive}
 use Rattle.re_tree.specs.PlainText.{PlainText, PlainTexts, unit, anchor, reference, conditional, conditional_else, sequence, alternation, counted, capture, plain, atomic_text, look_text, done, ◌also◌, Names, number_of}
-use Rattle.re_text.specs.Outcomes.{Outcome, Onward, here, only_if, each_then, closing, first_of_all, looked, keep_if, ending_at, from_behind, at_most, times_from, in_mode, optional_count, outcomes, outcomes_in_turn, outcomes_of_each}
+use Rattle.re_text.specs.Outcomes.{Outcome, Onward, here, only_if, each_then, with_capture, first_of_all, looked, keep_if, ending_at, from_behind, at_most, times_from, in_mode, optional_count, outcomes, outcomes_in_turn, outcomes_of_each}
 use Rattle.re_tree.specs.Widths.{plus, common, times, width, sum_of_widths, common_width}
 use Rattle.re_text.specs.Laws.{AllEndAt}
 
@@ -51,9 +51,9 @@ only_ends : (b : Bool) (e : ℕ) (m : Marks) → AllEndAt e (only_if b e m)
 only_ends true e m = (refl, tt)
 only_ends false e m = tt
 
-closing_ends : (g p e : ℕ) (xs : List Outcome) → AllEndAt e xs → AllEndAt e (closing g p xs)
-closing_ends g p e [] h = tt
-closing_ends g p e (o ∷ xs) h = (h.0, closing_ends g p e xs h.1)
+with_capture_ends : (g p e : ℕ) (xs : List Outcome) → AllEndAt e xs → AllEndAt e (with_capture g p xs)
+with_capture_ends g p e [] h = tt
+with_capture_ends g p e (o ∷ xs) h = (h.0, with_capture_ends g p e xs h.1)
 
 first_ends : (e : ℕ) (xs : List Outcome) → AllEndAt e xs → AllEndAt e (first_of_all xs)
 first_ends e [] h = tt
@@ -101,7 +101,7 @@ mutual
       at_end (p + least * w.0) (p + k) _ (omega (arith, w.3))
       (subst (λ j. AllEndAt (p + least * w.0) (in_mode mode (outcomes n names body s) least j p m)) (sym none)
       (mode_ends mode (outcomes n names body s) w.0 (λ q l. width_ends n names body s q w.0 l w.2) least p m))
-  width_ends n names (capture begin number name body) s p k m h = closing_ends number p (p + k) (outcomes n names body s p m) (width_ends n names body s p k m h)
+  width_ends n names (capture begin number name body) s p k m h = with_capture_ends number p (p + k) (outcomes n names body s p m) (width_ends n names body s p k m h)
   width_ends n names (plain begin body) s p k m h = width_ends n names body s p k m h
   width_ends n names (atomic_text begin body) s p k m h = first_ends (p + k) (outcomes n names body s p m) (width_ends n names body s p k m h)
   width_ends n names (look_text begin positive false body) s p k m h = let e : 0 ≡ k = cc h in at_end p (p + k) _ (omega (arith, e)) (looked_ends positive p m _)

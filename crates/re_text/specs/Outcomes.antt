@@ -34,16 +34,18 @@ each_then [] f = []
 each_then (o ∷ rest) f = f o.0 o.1 ++ each_then rest f
 
 -- each outcome captures group g, which began at p
-abbrev pub closing : ℕ → ℕ → List Outcome → List Outcome
-closing g p [] = []
-closing g p (o ∷ rest) = (o.0, o.1 ++ record { group = g; start = p; stop = o.0 } ∷ []) ∷ closing g p rest
+abbrev pub with_capture : ℕ → ℕ → List Outcome → List Outcome
+with_capture g p [] = []
+with_capture g p (o ∷ rest) =
+    (o.0, o.1 ++ record { group = g; start = p; stop = o.0 } ∷ []) ∷ with_capture g p rest
 
 -- at most the first
 abbrev pub first_of_all : List Outcome → List Outcome
 first_of_all [] = []
 first_of_all (o ∷ rest) = o ∷ []
 
--- a positive lookaround stays where it is with the captures of the first, and a negative one with its own
+-- a positive lookaround stays where it is with the captures of the first, and a negative one with
+-- its own
 -- where there is none
 abbrev pub looked : Bool → ℕ → Marks → List Outcome → List Outcome
 looked true p m [] = []
@@ -76,7 +78,8 @@ abbrev pub at_most : Onward → Bool → ℕ → Option ℕ → Onward
 at_most body greedy zero q p m = here p m
 at_most body greedy (suc j) q p m =
     elim (is_past q p) [
-      | true ↦ either_first greedy (each_then (body p m) (at_most body greedy j (Some p))) (here p m)
+      | true ↦ either_first greedy (each_then (body p m) (at_most body greedy j (Some p)))
+          (here p m)
       | false ↦ here p m
     ]
 
@@ -123,24 +126,36 @@ abbrev mutual
   outcomes n names (anchor k) s p m = only_if (is_at_anchor k s p) p m
   outcomes n names (reference begin id) s p m = once_more (span_of m (number_of names id)) s p m
   outcomes n names (conditional begin id met) s p m =
-      elim (is_some (span_of m (number_of names id))) [ true ↦ outcomes n names met s p m | false ↦ here p m ]
+      elim (is_some (span_of m (number_of names id))) [
+        | true ↦ outcomes n names met s p m
+        | false ↦ here p m
+      ]
   outcomes n names (conditional_else begin id met other) s p m =
-      elim (is_some (span_of m (number_of names id))) [ true ↦ outcomes n names met s p m | false ↦ outcomes n names other s p m ]
+      elim (is_some (span_of m (number_of names id))) [
+        | true ↦ outcomes n names met s p m
+        | false ↦ outcomes n names other s p m
+      ]
   outcomes n names (sequence parts) s p m = outcomes_in_turn n names parts s p m
   outcomes n names (alternation branches) s p m = outcomes_of_each n names branches s p m
-  outcomes n names (counted begin least most mode body) s p m = in_mode mode (outcomes n names body s) least (optional_count n least most) p m
-  outcomes n names (capture begin number name body) s p m = closing number p (outcomes n names body s p m)
+  outcomes n names (counted begin least most mode body) s p m =
+      in_mode mode (outcomes n names body s) least (optional_count n least most) p m
+  outcomes n names (capture begin number name body) s p m =
+      with_capture number p (outcomes n names body s p m)
   outcomes n names (plain begin body) s p m = outcomes n names body s p m
   outcomes n names (atomic_text begin body) s p m = first_of_all (outcomes n names body s p m)
-  outcomes n names (look_text begin positive false body) s p m = looked positive p m (outcomes n names body s p m)
-  outcomes n names (look_text begin positive true body) s p m = looked positive p m (from_behind (width body) p m (outcomes n names body s))
+  outcomes n names (look_text begin positive false body) s p m =
+      looked positive p m (outcomes n names body s p m)
+  outcomes n names (look_text begin positive true body) s p m =
+      looked positive p m (from_behind (width body) p m (outcomes n names body s))
 
   -- one part after another
   pub outcomes_in_turn : ℕ → Names → PlainTexts → List ℕ → Onward
   outcomes_in_turn n names done s p m = here p m
-  outcomes_in_turn n names (r also rs) s p m = each_then (outcomes n names r s p m) (outcomes_in_turn n names rs s)
+  outcomes_in_turn n names (r also rs) s p m =
+      each_then (outcomes n names r s p m) (outcomes_in_turn n names rs s)
 
   -- those of the branches, joined
   pub outcomes_of_each : ℕ → Names → PlainTexts → List ℕ → Onward
   outcomes_of_each n names done s p m = []
-  outcomes_of_each n names (r also rs) s p m = outcomes n names r s p m ++ outcomes_of_each n names rs s p m
+  outcomes_of_each n names (r also rs) s p m =
+      outcomes n names r s p m ++ outcomes_of_each n names rs s p m

@@ -60,14 +60,18 @@ abbrev mutual
   tree_of_text names (unit test) = test_node test then nothing
   tree_of_text names (anchor k) = at k then nothing
   tree_of_text names (reference begin id) = ref (number_of names id) then nothing
-  tree_of_text names (conditional begin id met) = exists (number_of names id) (tree_of_text names met) then nothing
+  tree_of_text names (conditional begin id met) =
+      exists (number_of names id) (tree_of_text names met) then nothing
   tree_of_text names (conditional_else begin id met other) =
-      exists_else (number_of names id) (tree_of_text names met) (tree_of_text names other) then nothing
+      exists_else (number_of names id) (tree_of_text names met) (tree_of_text names other)
+      then nothing
   tree_of_text names (sequence parts) = tree_of_parts names parts
   tree_of_text names (alternation branches) = branch (trees_of_branches names branches) then nothing
   tree_of_text names (counted begin least most mode body) =
-      repeat (kind_of_mode mode) (is_one_unit body) least (greatest most) (tree_of_text names body) then nothing
-  tree_of_text names (capture begin number name body) = group number (tree_of_text names body) then nothing
+      repeat (kind_of_mode mode) (is_one_unit body) least (greatest most) (tree_of_text names body)
+      then nothing
+  tree_of_text names (capture begin number name body) =
+      group number (tree_of_text names body) then nothing
   tree_of_text names (plain begin body) = tree_of_text names body
   tree_of_text names (atomic_text begin body) = atomic (tree_of_text names body) then nothing
   tree_of_text names (look_text begin positive back body) =
@@ -81,4 +85,5 @@ abbrev mutual
   pub trees_of_branches : Names → PlainTexts → PlainTrees
   trees_of_branches names done = only (fail then nothing)
   trees_of_branches names (r also done) = only (tree_of_text names r)
-  trees_of_branches names (r also q also rs) = tree_of_text names r or trees_of_branches names (q also rs)
+  trees_of_branches names (r also q also rs) =
+      tree_of_text names r or trees_of_branches names (q also rs)

@@ -9,7 +9,7 @@ use Rattle.re_tree.specs.declared.unit.UnitItem.TheVariants.{Literal, Span, Cate
 use Rattle.py_base.specs.Reading.{find}
 use Rattle.re_tree.specs.Tables.{Letter, is_character_of, digits_follow, categories, anchors, letters}
 use Rattle.re_tree.specs.Characters.{if_flag, first_is, is_ascii_non_alphanumeric}
-use Rattle.re_tree.specs.Sets.{AreItems, Items, put_item, item_then, items_at, WritesMember, itself, bracket, dash, backspace, escaped_itself, lettered, hexadecimal, is_span, WritesItem, Member, letter_member, escaped_member, member_at, Item, close_span, drop_one, span_or, class_of, class_at, or_item, item_at}
+use Rattle.re_tree.specs.Sets.{AreItems, Items, put_item, item_then, items_at, WritesMember, itself, bracket, dash, backspace, escaped_itself, lettered, hexadecimal, is_span, WritesItem, Member, letter_member, escaped_member, member_at, Item, close_range, drop_one, range_or_one, class_of, class_at, or_item, item_at}
 use Rattle.re_tree.proofs.HexLemmas.{hex_read, HexWritten, hex_written}
 use Rattle.re_tree.proofs.TableLemmas.{absent}
 use Rattle.re_tree.proofs.BoundLemmas.{cond_true, cond_false}
@@ -50,19 +50,19 @@ no_class ascii first c written rest (lettered l f e) = ap (λ x. class_at ascii 
 
 pub item_read : (ascii first : Bool) (item : UnitItem) (written rest : List ℕ) → WritesItem ascii first item written rest → item_at ascii first (written ++ rest) ≡ Some (item, rest)
 item_read ascii first (Literal c) written rest h =
-    ap (λ o. or_item o (span_or (member_at first (written ++ rest)))) (no_class ascii first c written rest h.0)
-    ∙ ap span_or (member_read first c written rest h.0)
-    ∙ cond_false (is_span rest) (close_span c (member_at false (drop_one rest))) (Some (Literal c, rest)) h.1
+    ap (λ o. or_item o (range_or_one (member_at first (written ++ rest)))) (no_class ascii first c written rest h.0)
+    ∙ ap range_or_one (member_read first c written rest h.0)
+    ∙ cond_false (is_span rest) (close_range c (member_at false (drop_one rest))) (Some (Literal c, rest)) h.1
 item_read ascii first (Span lo hi) written rest h =
     let text = 45 ∷ (h.1 ++ rest) in
     ap (λ f. item_at ascii first (f ++ rest)) h.6 ∙ ap (item_at ascii first) (append_assoc h.0 (45 ∷ h.1) rest)
-    ∙ ap (λ o. or_item o (span_or (member_at first (h.0 ++ 45 ∷ (h.1 ++ rest))))) (no_class ascii first lo h.0 (45 ∷ (h.1 ++ rest)) h.2)
-    ∙ ap span_or (member_read first lo h.0 (45 ∷ (h.1 ++ rest)) h.2)
-    ∙ cond_true (is_span (45 ∷ (h.1 ++ rest))) (close_span lo (member_at false (h.1 ++ rest))) (Some (Literal lo, 45 ∷ (h.1 ++ rest))) h.3
-    ∙ ap (close_span lo) (member_read false hi h.1 rest h.4)
+    ∙ ap (λ o. or_item o (range_or_one (member_at first (h.0 ++ 45 ∷ (h.1 ++ rest))))) (no_class ascii first lo h.0 (45 ∷ (h.1 ++ rest)) h.2)
+    ∙ ap range_or_one (member_read first lo h.0 (45 ∷ (h.1 ++ rest)) h.2)
+    ∙ cond_true (is_span (45 ∷ (h.1 ++ rest))) (close_range lo (member_at false (h.1 ++ rest))) (Some (Literal lo, 45 ∷ (h.1 ++ rest))) h.3
+    ∙ ap (close_range lo) (member_read false hi h.1 rest h.4)
     ∙ cond_true (nat_le lo hi) (Some (Span lo hi, rest)) None h.5
 item_read ascii first (Category k) written rest h =
-    ap (λ f. item_at ascii first (f ++ rest)) h.5 ∙ ap (λ o. or_item (class_of ascii o rest) (span_or (member_at first (92 ∷ h.0 ∷ rest)))) h.3
+    ap (λ f. item_at ascii first (f ++ rest)) h.5 ∙ ap (λ o. or_item (class_of ascii o rest) (range_or_one (member_at first (92 ∷ h.0 ∷ rest)))) h.3
     ∙ ap (λ n. Some (Category n, rest)) (sym h.4)
 
 -- a member, and so an item, begins with a character that does not end the set
@@ -190,7 +190,7 @@ span_is (c ∷ cs) h = at (c == 45) refl h
     at true e k = ap (λ d. d ∷ cs) (eqb-true c 45 e)
     at false e k = let f : ⊥ = cc k in absurd f
 
-close_written : (ascii first : Bool) (lo : ℕ) (low text : List ℕ) (item : UnitItem) (rest : List ℕ) (o : Member) → WritesMember first lo low (45 ∷ text) → is_span (45 ∷ text) ≡ true → member_at false text ≡ o → close_span lo o ≡ Some (item, rest)
+close_written : (ascii first : Bool) (lo : ℕ) (low text : List ℕ) (item : UnitItem) (rest : List ℕ) (o : Member) → WritesMember first lo low (45 ∷ text) → is_span (45 ∷ text) ≡ true → member_at false text ≡ o → close_range lo o ≡ Some (item, rest)
     → ItemWritten ascii first (low ++ 45 ∷ text) item rest
 close_written ascii first lo low text item rest None w s m e = no_item item rest e
 close_written ascii first lo low text item rest (Some x) w s m e =
@@ -204,11 +204,11 @@ close_written ascii first lo low text item rest (Some x) w s m e =
     }))
     (λ le g. no_item item rest g)
 
-span_written : (ascii first : Bool) (text : List ℕ) (item : UnitItem) (rest : List ℕ) (o : Member) → member_at first text ≡ o → span_or o ≡ Some (item, rest) → ItemWritten ascii first text item rest
+span_written : (ascii first : Bool) (text : List ℕ) (item : UnitItem) (rest : List ℕ) (o : Member) → member_at first text ≡ o → range_or_one o ≡ Some (item, rest) → ItemWritten ascii first text item rest
 span_written ascii first text item rest None m e = no_item item rest e
 span_written ascii first text item rest (Some x) m e =
     let k : MemberWritten first text x.0 x.1 = member_written first text x.0 x.1 m in
-    item_choice (is_span x.1) (close_span x.0 (member_at false (drop_one x.1))) (Some (Literal x.0, x.1)) (Some (item, rest)) e
+    item_choice (is_span x.1) (close_range x.0 (member_at false (drop_one x.1))) (Some (Literal x.0, x.1)) (Some (item, rest)) e
     (λ s g.
     let d : x.1 ≡ 45 ∷ drop_one x.1 = span_is x.1 s in
     subst (λ t. ItemWritten ascii first t item rest) (sym (k.is ∙ ap (λ t. k.written ++ t) d))
@@ -231,7 +231,7 @@ class_at_written ascii first (c ∷ l ∷ cs) item rest e =
     (λ a g. subst (λ k. ItemWritten ascii first (k ∷ l ∷ cs) item rest) (sym (eqb-true c 92 a)) (class_written ascii first l cs item rest (find letters l) refl g))
     (λ a g. no_item item rest g)
 
-or_written : (ascii first : Bool) (text : List ℕ) (item : UnitItem) (rest : List ℕ) (o : Item) → class_at ascii text ≡ o → or_item o (span_or (member_at first text)) ≡ Some (item, rest) → ItemWritten ascii first text item rest
+or_written : (ascii first : Bool) (text : List ℕ) (item : UnitItem) (rest : List ℕ) (o : Item) → class_at ascii text ≡ o → or_item o (range_or_one (member_at first text)) ≡ Some (item, rest) → ItemWritten ascii first text item rest
 or_written ascii first text item rest None c e = span_written ascii first text item rest (member_at first text) refl e
 or_written ascii first text item rest (Some x) c e = class_at_written ascii first text item rest (c ∙ e)
 

@@ -4,7 +4,7 @@ use Rattle.std.specs.Prelude.{Option, Some, None}
 use Rattle.re_tree.specs.PlainText.{PlainText, PlainTexts, unit, anchor, reference, conditional, conditional_else, sequence, alternation, counted, capture, plain, atomic_text, look_text, done, ◌also◌, captures, all_captures}
 use Rattle.re_tree.specs.Tokens.{Opening, capturing, non_capturing, atomic_opening, look_opening, conditional_opening, Token, unit_token, anchor_token, reference_token, count_token, open_token, bar, close, tokens_of, tokens_in_turn, tokens_between}
 use Rattle.re_tree.specs.Grammar.{is_countable, IsRegex, IsBranch, IsPiece, ArePieces, AreBranches}
-use Rattle.re_tree.specs.Machine.{snoc, Frame, frame, State, state, groups_begun, put_front, one_if, count_last, regex_of, part_of, counted_state, closed_state, close_frame, step, run, run_on, finish, tree_of_tokens}
+use Rattle.re_tree.specs.Machine.{snoc, Frame, frame, State, state, groups_begun, put_first, one_if, count_last, regex_of, part_of, counted_state, closed_state, close_frame, step, run, run_on, finish, tree_of_tokens}
 
 abbrev pub append : PlainTexts → PlainTexts → PlainTexts
 append done qs = qs
@@ -29,8 +29,8 @@ append_nil (x ∷ xs) = ap (λ l. x ∷ l) (append_nil xs)
 -- a count takes the last piece
 count_pushed : (f : PlainText → PlainText) (ps : PlainTexts) (r : PlainText) → is_countable r ≡ true → count_last f (snoc ps r) ≡ Some (snoc ps (f r))
 count_pushed f done r h = ap (λ b. one_if b (f r)) h
-count_pushed f (p also done) r h = ap (put_front p) (count_pushed f done r h)
-count_pushed f (p also q also ps) r h = ap (put_front p) (count_pushed f (q also ps) r h)
+count_pushed f (p also done) r h = ap (put_first p) (count_pushed f done r h)
+count_pushed f (p also q also ps) r h = ap (put_first p) (count_pushed f (q also ps) r h)
 
 from_groups : (a b : ℕ) (outer : List Frame) (bs ps : PlainTexts) (x : List Token) → a ≡ b → run (state a outer bs ps) x ≡ run (state b outer bs ps) x
 from_groups a b outer bs ps x e = ap (λ n. run (state n outer bs ps) x) e

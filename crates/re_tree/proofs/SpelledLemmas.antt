@@ -4,7 +4,7 @@ use Rattle.std.specs.Prelude.{Option, Some, None}
 use Rattle.re_tree.specs.PlainText.{PlainText, PlainTexts, unit, anchor, reference, conditional, conditional_else, sequence, alternation, counted, capture, plain, atomic_text, look_text, done, ◌also◌, captures, all_captures}
 use Rattle.re_tree.specs.Tokens.{Opening, capturing, non_capturing, atomic_opening, look_opening, conditional_opening, Token, unit_token, anchor_token, reference_token, count_token, open_token, bar, close, tokens_of, tokens_in_turn, tokens_between}
 use Rattle.re_tree.specs.Grammar.{is_countable, IsRegex, IsBranch, IsPiece, ArePieces, AreBranches}
-use Rattle.re_tree.specs.Machine.{snoc, Frame, frame, State, state, groups_begun, put_front, one_if, count_last, regex_of, part_of, counted_state, closed_state, close_frame, step, step_on, run, run_on, finish, tree_of_tokens}
+use Rattle.re_tree.specs.Machine.{snoc, Frame, frame, State, state, groups_begun, put_first, one_if, count_last, regex_of, part_of, counted_state, closed_state, close_frame, step, step_on, run, run_on, finish, tree_of_tokens}
 
 append_nil : (xs : List Token) → xs ++ [] ≡ xs
 append_nil [] = refl
@@ -154,7 +154,7 @@ last_one : (f : PlainText → PlainText) (r : PlainText) (qs : PlainTexts) (b : 
 last_one f r qs true e h = let i : f r also done ≡ qs = cc h in record { written = done; piece = r; was = refl; takes = e; now = sym i }
 last_one f r qs false e h = let x : ⊥ = cc h in absurd x
 
-last_more : (f : PlainText → PlainText) (p : PlainText) (ps : PlainTexts) (qs : PlainTexts) (o : Option PlainTexts) → ((us : PlainTexts) → o ≡ Some us → Last f ps us) → put_front p o ≡ Some qs → Last f (p also ps) qs
+last_more : (f : PlainText → PlainText) (p : PlainText) (ps : PlainTexts) (qs : PlainTexts) (o : Option PlainTexts) → ((us : PlainTexts) → o ≡ Some us → Last f ps us) → put_first p o ≡ Some qs → Last f (p also ps) qs
 last_more f p ps qs None h e = let x : ⊥ = cc e in absurd x
 last_more f p ps qs (Some us) h e =
     let l : Last f ps us = h us refl in

@@ -69,14 +69,26 @@ names_at number _ = []
 
 -- inside an opening
 abbrev pub inside : Where → ℕ → Opening → Where
-inside w number opening = record { depth = w.depth + 1; names = w.names ++ names_at number opening; closed = w.closed }
+inside w number opening = record {
+  depth = w.depth + 1;
+  names = w.names ++ names_at number opening;
+  closed = w.closed;
+}
 
 -- after a part
 abbrev pub after : Where → PlainText → Where
-after w r = record { depth = w.depth; names = w.names ++ names_of r; closed = w.closed ++ numbers_of r }
+after w r = record {
+  depth = w.depth;
+  names = w.names ++ names_of r;
+  closed = w.closed ++ numbers_of r;
+}
 
 abbrev pub after_all : Where → PlainTexts → Where
-after_all w rs = record { depth = w.depth; names = w.names ++ all_names rs; closed = w.closed ++ all_numbers rs }
+after_all w rs = record {
+  depth = w.depth;
+  names = w.names ++ all_names rs;
+  closed = w.closed ++ all_numbers rs;
+}
 
 -- a group of this number or name has ended
 abbrev pub is_closed : Where → GroupName → Bool
@@ -90,14 +102,21 @@ deep w begin = only_if (nat_le MAX_PARENTHESES w.depth) begin TooDeep
 -- a back reference: `(?P=name)` begins with a parenthesis, and `\1` does not
 abbrev pub at_reference : Where → ℕ → GroupName → List Fault
 at_reference w begin (numbered n) = only_if (not (is_closed w (numbered n))) begin BadReference
-at_reference w begin (named name) = deep w begin ++ (only_if (not (is_identifier name)) begin BadName ++ only_if (not (is_closed w (named name))) begin BadReference)
+at_reference w begin (named name) =
+    deep w begin
+    ++ (only_if (not (is_identifier name)) begin BadName
+    ++ only_if (not (is_closed w (named name))) begin BadReference)
 
 -- an opening, where a group that it begins has this number; the number of a conditional is tested
 -- at the end of the pattern
 abbrev pub of_opening : Where → ℕ → ℕ → Opening → List Fault
 of_opening w begin number (capturing None) = only_if (nat_lt MAX_GROUPS number) begin TooManyGroups
-of_opening w begin number (capturing (Some name)) = only_if (nat_lt MAX_GROUPS number) begin TooManyGroups ++ only_if (not (is_identifier name) || has_name w.names name) begin BadName
-of_opening w begin number (conditional_opening (named name)) = only_if (not (is_identifier name)) begin BadName ++ only_if (not (has_name w.names name)) begin BadReference
+of_opening w begin number (capturing (Some name)) =
+    only_if (nat_lt MAX_GROUPS number) begin TooManyGroups
+    ++ only_if (not (is_identifier name) || has_name w.names name) begin BadName
+of_opening w begin number (conditional_opening (named name)) =
+    only_if (not (is_identifier name)) begin BadName
+    ++ only_if (not (has_name w.names name)) begin BadReference
 of_opening w begin number _ = []
 
 abbrev pub at_opening : Where → ℕ → ℕ → Opening → List Fault
@@ -105,19 +124,20 @@ at_opening w begin number opening = deep w begin ++ of_opening w begin number op
 
 abbrev pub is_bad_count : ℕ → Option ℕ → Bool
 is_bad_count least None = nat_lt MAX_COUNT least
-is_bad_count least (Some most) = nat_lt MAX_COUNT least || nat_lt MAX_COUNT most || nat_lt most least
+is_bad_count least (Some most) =
+    nat_lt MAX_COUNT least || nat_lt MAX_COUNT most || nat_lt most least
 
 abbrev pub at_count : ℕ → ℕ → Option ℕ → List Fault
 at_count begin least most = only_if (is_bad_count least most) begin BadCount
 
--- no width, or one that no code word holds
-abbrev pub is_wide : Option ℕ → Bool
-is_wide None = true
-is_wide (Some k) = nat_lt MAX_WIDTH k
+-- a lookbehind may not have this width: none, or one past the limit
+abbrev pub is_bad_width : Option ℕ → Bool
+is_bad_width None = true
+is_bad_width (Some k) = nat_lt MAX_WIDTH k
 
 -- the end of a part, whose body has this width
 abbrev pub at_close : ℕ → Opening → Option ℕ → List Fault
-at_close begin (look_opening positive true) w = only_if (is_wide w) begin NotFixedWidth
+at_close begin (look_opening positive true) w = only_if (is_bad_width w) begin NotFixedWidth
 at_close begin _ w = []
 
 -- the faults of a part, in the order in which they are seen
@@ -126,17 +146,26 @@ abbrev mutual
   faults w (unit test) = []
   faults w (anchor k) = []
   faults w (reference begin id) = at_reference w begin id
-  faults w (conditional begin id met) = at_opening w begin 0 (conditional_opening id) ++ faults (inside w 0 (conditional_opening id)) met
+  faults w (conditional begin id met) =
+      at_opening w begin 0 (conditional_opening id)
+      ++ faults (inside w 0 (conditional_opening id)) met
   faults w (conditional_else begin id met other) =
-      at_opening w begin 0 (conditional_opening id) ++ (faults (inside w 0 (conditional_opening id)) met ++ faults (after (inside w 0 (conditional_opening id)) met) other)
+      at_opening w begin 0 (conditional_opening id)
+      ++ (faults (inside w 0 (conditional_opening id)) met
+      ++ faults (after (inside w 0 (conditional_opening id)) met) other)
   faults w (sequence parts) = faults_in_turn w parts
   faults w (alternation branches) = faults_in_turn w branches
   faults w (counted begin least most mode body) = faults w body ++ at_count begin least most
-  faults w (capture begin number name body) = at_opening w begin number (capturing name) ++ faults (inside w number (capturing name)) body
-  faults w (plain begin body) = at_opening w begin 0 non_capturing ++ faults (inside w 0 non_capturing) body
-  faults w (atomic_text begin body) = at_opening w begin 0 atomic_opening ++ faults (inside w 0 atomic_opening) body
+  faults w (capture begin number name body) =
+      at_opening w begin number (capturing name) ++ faults (inside w number (capturing name)) body
+  faults w (plain begin body) =
+      at_opening w begin 0 non_capturing ++ faults (inside w 0 non_capturing) body
+  faults w (atomic_text begin body) =
+      at_opening w begin 0 atomic_opening ++ faults (inside w 0 atomic_opening) body
   faults w (look_text begin positive back body) =
-      at_opening w begin 0 (look_opening positive back) ++ (faults (inside w 0 (look_opening positive back)) body ++ at_close begin (look_opening positive back) (width body))
+      at_opening w begin 0 (look_opening positive back)
+      ++ (faults (inside w 0 (look_opening positive back)) body
+      ++ at_close begin (look_opening positive back) (width body))
 
   pub faults_in_turn : Where → PlainTexts → List Fault
   faults_in_turn w done = []
@@ -150,7 +179,8 @@ conditional_of begin (named name) = []
 abbrev mutual
   pub conditionals : PlainText → List (ℕ × ℕ)
   conditionals (conditional begin id met) = conditional_of begin id ++ conditionals met
-  conditionals (conditional_else begin id met other) = conditional_of begin id ++ (conditionals met ++ conditionals other)
+  conditionals (conditional_else begin id met other) =
+      conditional_of begin id ++ (conditionals met ++ conditionals other)
   conditionals (sequence parts) = all_conditionals parts
   conditionals (alternation branches) = all_conditionals branches
   conditionals (counted begin least most mode body) = conditionals body
@@ -170,7 +200,8 @@ is_past all number = number == 0 || nat_lt all number
 
 abbrev pub conditional_faults : ℕ → List (ℕ × ℕ) → List Fault
 conditional_faults all [] = []
-conditional_faults all (x ∷ xs) = only_if (is_past all x.1) x.0 BadReference ++ conditional_faults all xs
+conditional_faults all (x ∷ xs) =
+    only_if (is_past all x.1) x.0 BadReference ++ conditional_faults all xs
 
 -- one comes before another where its place is less, or at one place its kind
 abbrev pub is_before : Fault → Fault → Bool
@@ -193,9 +224,9 @@ abbrev pub fault_of : PlainText → Option Fault
 fault_of r = first_of (all_faults r)
 
 -- what is found in a pattern: nothing where it has no tree, and else its first fault, if it has one
-abbrev pub Verdict : Type 0
-Verdict = Option (Option Fault)
+abbrev pub FirstFault : Type 0
+FirstFault = Option (Option Fault)
 
-abbrev pub verdict_of : Option PlainText → Verdict
-verdict_of None = None
-verdict_of (Some r) = Some (fault_of r)
+abbrev pub first_fault_of : Option PlainText → FirstFault
+first_fault_of None = None
+first_fault_of (Some r) = Some (fault_of r)

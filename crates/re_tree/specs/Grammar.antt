@@ -159,7 +159,8 @@ pub data WritesAnchor (flags : Flags) (k : ℕ) (written : List ℕ) : Type 0 wh
 
 -- a category by itself, or a set in brackets; a `^` directly after the `[` always
 -- negates
-pub data WritesSet (flags : Flags) (negated : Bool) (items : List UnitItem) (written rest : List ℕ) : Type 0 where
+pub data WritesSet (flags : Flags) (negated : Bool) (items : List UnitItem)
+    (written rest : List ℕ) : Type 0 where
   alone : (l a b : ℕ) → find letters l ≡ Some (categories a b) → negated ≡ false
       → items ≡ Category (if_flag (flags.ascii) b a) ∷ [] → written ≡ 92 ∷ l ∷ []
       → WritesSet flags negated items written rest

@@ -19,7 +19,7 @@ abbrev pub if_dotall : Bool → PlainTest
 if_dotall true = dot_all
 if_dotall false = dot
 
--- the digits at the front, and what is left
+-- the digits at the beginning, and what is left
 abbrev pub digits_of : List ℕ → List ℕ
 digits_of [] = []
 digits_of (c ∷ cs) = cond (is_digit c) (c ∷ digits_of cs) []
@@ -42,7 +42,9 @@ most_at least most (c ∷ cs) = cond (c == 125) (Some (least, most, cs)) None
 
 abbrev pub bounds_at : List ℕ → List ℕ → Bounds
 bounds_at ds [] = None
-bounds_at ds (c ∷ cs) = cond (c == 125) (exact_at ds cs) (cond (c == 44) (most_at (value ds) (greatest_of (digits_of cs)) (after_digits cs)) None)
+bounds_at ds (c ∷ cs) =
+    cond (c == 125) (exact_at ds cs)
+    (cond (c == 44) (most_at (value ds) (greatest_of (digits_of cs)) (after_digits cs)) None)
 
 -- after a `{`
 abbrev pub read_bounds : List ℕ → Bounds
@@ -51,20 +53,22 @@ read_bounds cs = bounds_at (digits_of cs) (after_digits cs)
 abbrev pub with_mode : ℕ → ℕ → Option ℕ → List ℕ → Token × List ℕ
 with_mode p least most [] = (count_token p least most Greedy, [])
 with_mode p least most (c ∷ cs) =
-    cond (c == 63) (count_token p least most Lazy, cs) (cond (c == 43) (count_token p least most Possessive, cs) (count_token p least most Greedy, c ∷ cs))
+    cond (c == 63) (count_token p least most Lazy, cs)
+    (cond (c == 43) (count_token p least most Possessive, cs)
+    (count_token p least most Greedy, c ∷ cs))
 
 abbrev pub brace_token : ℕ → List ℕ → Bounds → Token × List ℕ
 brace_token p cs None = (unit_token (literal 123), cs)
 brace_token p cs (Some b) = with_mode p b.0 b.1 b.2
 
 -- a name up to the next c, and what is left after that
-abbrev pub add_front : ℕ → Option (List ℕ × List ℕ) → Option (List ℕ × List ℕ)
-add_front c None = None
-add_front c (Some x) = Some (c ∷ x.0, x.1)
+abbrev pub add_first : ℕ → Option (List ℕ × List ℕ) → Option (List ℕ × List ℕ)
+add_first c None = None
+add_first c (Some x) = Some (c ∷ x.0, x.1)
 
 abbrev pub up_to : ℕ → List ℕ → Option (List ℕ × List ℕ)
 up_to e [] = None
-up_to e (c ∷ cs) = cond (c == e) (Some ([], cs)) (add_front c (up_to e cs))
+up_to e (c ∷ cs) = cond (c == e) (Some ([], cs)) (add_first c (up_to e cs))
 
 abbrev pub named_opening : ℕ → Option (List ℕ × List ℕ) → Found
 named_opening p None = None
@@ -81,12 +85,16 @@ named_conditional p (Some x) = Some (open_token p (conditional_opening (id_of x.
 -- after `(?P`
 abbrev pub name_token : ℕ → List ℕ → Found
 name_token p [] = None
-name_token p (c ∷ cs) = cond (c == 60) (named_opening p (up_to 62 cs)) (cond (c == 61) (named_reference p (up_to 41 cs)) None)
+name_token p (c ∷ cs) =
+    cond (c == 60) (named_opening p (up_to 62 cs))
+    (cond (c == 61) (named_reference p (up_to 41 cs)) None)
 
 -- after `(?<`
 abbrev pub lookbehind_token : ℕ → List ℕ → Found
 lookbehind_token p [] = None
-lookbehind_token p (c ∷ cs) = cond (c == 61) (Some (open_token p (look_opening true true), cs)) (cond (c == 33) (Some (open_token p (look_opening false true), cs)) None)
+lookbehind_token p (c ∷ cs) =
+    cond (c == 61) (Some (open_token p (look_opening true true), cs))
+    (cond (c == 33) (Some (open_token p (look_opening false true), cs)) None)
 
 abbrev pub extension_token : Option Extension → ℕ → List ℕ → Found
 extension_token None p cs = None
@@ -103,14 +111,16 @@ extended p (c ∷ cs) = extension_token (find extensions c) p cs
 -- after `(`
 abbrev pub opening_token : ℕ → List ℕ → Found
 opening_token p [] = Some (open_token p (capturing None), [])
-opening_token p (c ∷ cs) = cond (c == 63) (extended p cs) (Some (open_token p (capturing None), c ∷ cs))
+opening_token p (c ∷ cs) =
+    cond (c == 63) (extended p cs) (Some (open_token p (capturing None), c ∷ cs))
 
 -- a back reference after its first digit
 abbrev pub number_token : ℕ → ℕ → List ℕ → Found
 number_token p d [] = Some (reference_token p (numbered (d - 48)), [])
 number_token p d (e ∷ cs) =
     cond (is_digit e)
-    (cond (is_octal d && is_octal e && first_is is_octal cs) None (Some (reference_token p (numbered (10 * (d - 48) + (e - 48))), cs)))
+    (cond (is_octal d && is_octal e && first_is is_octal cs) None
+    (Some (reference_token p (numbered (10 * (d - 48) + (e - 48))), cs)))
     (Some (reference_token p (numbered (d - 48)), e ∷ cs))
 
 abbrev pub hex_token : Option (ℕ × List ℕ) → Found
@@ -118,10 +128,13 @@ hex_token None = None
 hex_token (Some x) = Some (unit_token (literal x.0), x.1)
 
 abbrev pub letter_token : Option Letter → Flags → ℕ → ℕ → List ℕ → Found
-letter_token None flags p l cs = cond (is_first_digit l) (number_token p l cs) (cond (is_ascii_non_alphanumeric l) (Some (unit_token (literal l), cs)) None)
+letter_token None flags p l cs =
+    cond (is_first_digit l) (number_token p l cs)
+    (cond (is_ascii_non_alphanumeric l) (Some (unit_token (literal l), cs)) None)
 letter_token (Some (is_character_of c)) flags p l cs = Some (unit_token (literal c), cs)
 letter_token (Some (digits_follow n)) flags p l cs = hex_token (read_hex n 0 cs)
-letter_token (Some (categories a b)) flags p l cs = Some (unit_token (set false (Category (if_flag (flags.ascii) b a) ∷ [])), cs)
+letter_token (Some (categories a b)) flags p l cs =
+    Some (unit_token (set false (Category (if_flag (flags.ascii) b a) ∷ [])), cs)
 letter_token (Some (anchors a b)) flags p l cs = Some (anchor_token (if_flag (flags.ascii) b a), cs)
 
 -- after a backslash
@@ -137,7 +150,8 @@ set_token negated (Some x) = Some (unit_token (set negated x.0), x.1)
 abbrev pub bracket_token : Flags → List ℕ → Found
 bracket_token flags [] = None
 bracket_token flags (c ∷ cs) =
-    cond (c == 94) (set_token true (items_at (length cs) (flags.ascii) true cs)) (set_token false (items_at (length (c ∷ cs)) (flags.ascii) true (c ∷ cs)))
+    cond (c == 94) (set_token true (items_at (length cs) (flags.ascii) true cs))
+    (set_token false (items_at (length (c ∷ cs)) (flags.ascii) true (c ∷ cs)))
 
 abbrev pub sign_token : Option Sign → Flags → ℕ → ℕ → List ℕ → Found
 sign_token None flags p c cs = Some (unit_token (literal c), cs)
@@ -151,10 +165,10 @@ sign_token (Some opens) flags p c cs = opening_token p cs
 sign_token (Some closes) flags p c cs = Some (close, cs)
 sign_token (Some splits) flags p c cs = Some (bar, cs)
 
--- the token at the front of the text, whose place is p, where it has one
-abbrev pub front_token : Flags → ℕ → List ℕ → Found
-front_token flags p [] = None
-front_token flags p (c ∷ cs) = sign_token (find signs c) flags p c cs
+-- the first token of the text, whose place is p, where it has one
+abbrev pub first_token : Flags → ℕ → List ℕ → Found
+first_token flags p [] = None
+first_token flags p (c ∷ cs) = sign_token (find signs c) flags p c cs
 
 -- what is next in a pattern
 pub data Lexed : Type 0 where
@@ -168,7 +182,7 @@ lexed_as (Some x) = lexed x.0 x.1
 
 abbrev pub next_token : Flags → ℕ → List ℕ → Lexed
 next_token flags p [] = at_end
-next_token flags p (c ∷ cs) = lexed_as (front_token flags p (c ∷ cs))
+next_token flags p (c ∷ cs) = lexed_as (first_token flags p (c ∷ cs))
 
 abbrev pub put_token : Token → Option (List Token) → Option (List Token)
 put_token t None = None
@@ -183,4 +197,5 @@ token_then (Some x) f = put_token x.0 (f x.1)
 abbrev pub all_tokens : Flags → ℕ → ℕ → List ℕ → Option (List Token)
 all_tokens flags whole n [] = Some []
 all_tokens flags whole zero (c ∷ cs) = None
-all_tokens flags whole (suc n) (c ∷ cs) = token_then (front_token flags (whole - length (c ∷ cs)) (c ∷ cs)) (all_tokens flags whole n)
+all_tokens flags whole (suc n) (c ∷ cs) =
+    token_then (first_token flags (whole - length (c ∷ cs)) (c ∷ cs)) (all_tokens flags whole n)

@@ -12,7 +12,7 @@ use Rattle.re_tree.specs.Machine.{read_tree}
 use Rattle.re_tree.specs.declared.fault.Fault.{Fault}
 use Rattle.re_tree.specs.declared.fault.FaultKind.TheVariants.{TooDeep, TooManyGroups, BadName, BadCount, BadReference, NotFixedWidth}
 use Rattle.re_tree.specs.declared.fault.FaultKind.{FaultKind}
-use Rattle.re_tree.specs.Faults.{verdict_of}
+use Rattle.re_tree.specs.Faults.{first_fault_of}
 
 abbrev plainly : Flags
 plainly = record { ascii = false; multiline = false; dotall = false }
@@ -20,7 +20,13 @@ plainly = record { ascii = false; multiline = false; dotall = false }
 abbrev l : ℕ → PlainText
 l c = unit (literal c)
 
-pub branches_row : read_tree plainly (codes "(a|b)*c") ≡ Some (sequence (counted 5 0 None Greedy (capture 0 1 None (alternation (sequence (l 97 also done) also sequence (l 98 also done) also done))) also l 99 also done))
+pub branches_row : read_tree plainly (codes "(a|b)*c")
+    ≡ Some
+    (sequence
+    (counted 5 0 None Greedy
+    (capture 0 1 None
+    (alternation (sequence (l 97 also done) also sequence (l 98 also done) also done))) also l 99
+    also done))
 branches_row = refl
 
 -- a count is no atom, and an anchor takes none
@@ -31,24 +37,37 @@ pub place_count_row : read_tree plainly (codes "^*") ≡ None
 place_count_row = refl
 
 -- a `{` that begins no count
-pub brace_row : read_tree plainly (codes "a{2,x{,3}") ≡ Some (sequence (l 97 also l 123 also l 50 also l 44 also counted 5 0 (Some 3) Greedy (l 120) also done))
+pub brace_row : read_tree plainly (codes "a{2,x{,3}")
+    ≡ Some
+    (sequence (l 97 also l 123 also l 50 also l 44 also counted 5 0 (Some 3) Greedy (l 120)
+    also done))
 brace_row = refl
 
-pub exact_row : read_tree plainly (codes "a{02}+") ≡ Some (sequence (counted 1 2 (Some 2) Possessive (l 97) also done))
+pub exact_row : read_tree plainly (codes "a{02}+")
+    ≡ Some (sequence (counted 1 2 (Some 2) Possessive (l 97) also done))
 exact_row = refl
 
 -- group 12, and then an 8
-pub reference_row : read_tree plainly (codes "\\128") ≡ Some (sequence (reference 0 (numbered 12) also l 56 also done))
+pub reference_row : read_tree plainly (codes "\\128")
+    ≡ Some (sequence (reference 0 (numbered 12) also l 56 also done))
 reference_row = refl
 
 -- three octal digits
 pub octal_row : read_tree plainly (codes "\\127") ≡ None
 octal_row = refl
 
-pub name_row : read_tree plainly (codes "(?P<n>\\d)(?P=n)") ≡ Some (sequence (capture 0 1 (Some (codes "n")) (sequence (unit (set false (Category 10 ∷ [])) also done)) also reference 9 (named (codes "n")) also done))
+pub name_row : read_tree plainly (codes "(?P<n>\\d)(?P=n)")
+    ≡ Some
+    (sequence
+    (capture 0 1 (Some (codes "n")) (sequence (unit (set false (Category 10 ∷ [])) also done))
+    also reference 9 (named (codes "n")) also done))
 name_row = refl
 
-pub conditional_row : read_tree plainly (codes "(?(1)a|b)") ≡ Some (sequence (conditional_else 0 (numbered 1) (sequence (l 97 also done)) (sequence (l 98 also done)) also done))
+pub conditional_row : read_tree plainly (codes "(?(1)a|b)")
+    ≡ Some
+    (sequence
+    (conditional_else 0 (numbered 1) (sequence (l 97 also done)) (sequence (l 98 also done))
+    also done))
 conditional_row = refl
 
 -- a conditional has at most two branches
@@ -63,7 +82,7 @@ open_row = refl
 
 -- what is said of a pattern by its tree
 abbrev says : List ℕ → Option (Option Fault)
-says text = verdict_of (read_tree plainly text)
+says text = first_fault_of (read_tree plainly text)
 
 abbrev answers : ℕ → FaultKind → Option (Option Fault)
 answers begin kind = Some (Some (record { begin = begin; kind = kind }))
@@ -193,13 +212,16 @@ pub deep_choice_row : says (nested 59 (codes "(?(1)a)")) ≡ good
 deep_choice_row = refl
 
 -- `[]-a^]`: a `]` that comes first begins a range, and a `^` that does not come first is itself
-pub set_row : read_tree plainly (codes "[]-a^]") ≡ Some (sequence (unit (set false (Span 93 97 ∷ Literal 94 ∷ [])) also done))
+pub set_row : read_tree plainly (codes "[]-a^]")
+    ≡ Some (sequence (unit (set false (Span 93 97 ∷ Literal 94 ∷ [])) also done))
 set_row = refl
 
-pub negated_row : read_tree plainly (codes "[^\\d-]") ≡ Some (sequence (unit (set true (Category 10 ∷ Literal 45 ∷ [])) also done))
+pub negated_row : read_tree plainly (codes "[^\\d-]")
+    ≡ Some (sequence (unit (set true (Category 10 ∷ Literal 45 ∷ [])) also done))
 negated_row = refl
 
-pub hex_row : read_tree plainly (codes "\\x41[\\u0062-c]") ≡ Some (sequence (l 65 also unit (set false (Span 98 99 ∷ [])) also done))
+pub hex_row : read_tree plainly (codes "\\x41[\\u0062-c]")
+    ≡ Some (sequence (l 65 also unit (set false (Span 98 99 ∷ [])) also done))
 hex_row = refl
 
 -- a `-` in the middle is no character

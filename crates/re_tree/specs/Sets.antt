@@ -16,7 +16,8 @@ pub data WritesMember (first : Bool) (c : ℕ) (written rest : List ℕ) : Type 
   dash : (first || first_is (λ d. d == 93) rest) ≡ true → c ≡ 45 → written ≡ 45 ∷ []
       → WritesMember first c written rest
   backspace : c ≡ 8 → written ≡ 92 ∷ 98 ∷ [] → WritesMember first c written rest
-  escaped_itself : is_ascii_non_alphanumeric c ≡ true → written ≡ 92 ∷ c ∷ [] → WritesMember first c written rest
+  escaped_itself : is_ascii_non_alphanumeric c ≡ true → written ≡ 92 ∷ c ∷ []
+      → WritesMember first c written rest
   lettered : (l : ℕ) → find letters l ≡ Some (is_character_of c) → written ≡ 92 ∷ l ∷ []
       → WritesMember first c written rest
   hexadecimal : (l n : ℕ) (ds : List ℕ) → find letters l ≡ Some (digits_follow n) → length ds ≡ n
@@ -70,22 +71,24 @@ abbrev pub member_at : Bool → List ℕ → Member
 member_at first [] = None
 member_at first (c ∷ cs) =
     cond (c == 92) (escaped_member cs) (cond (c == 93) (cond first (Some (93, cs)) None)
-    (cond (c == 45) (cond (first || first_is (λ d. d == 93) cs) (Some (45, cs)) None) (Some (c, cs))))
+    (cond (c == 45) (cond (first || first_is (λ d. d == 93) cs) (Some (45, cs)) None)
+    (Some (c, cs))))
 
 abbrev pub Item : Type 0
 Item = Option (UnitItem × List ℕ)
 
-abbrev pub close_span : ℕ → Member → Item
-close_span lo None = None
-close_span lo (Some x) = cond (nat_le lo x.0) (Some (Span lo x.0, x.1)) None
+abbrev pub close_range : ℕ → Member → Item
+close_range lo None = None
+close_range lo (Some x) = cond (nat_le lo x.0) (Some (Span lo x.0, x.1)) None
 
 abbrev pub drop_one : List ℕ → List ℕ
 drop_one [] = []
 drop_one (c ∷ cs) = cs
 
-abbrev pub span_or : Member → Item
-span_or None = None
-span_or (Some x) = cond (is_span x.1) (close_span x.0 (member_at false (drop_one x.1))) (Some (Literal x.0, x.1))
+abbrev pub range_or_one : Member → Item
+range_or_one None = None
+range_or_one (Some x) =
+    cond (is_span x.1) (close_range x.0 (member_at false (drop_one x.1))) (Some (Literal x.0, x.1))
 
 abbrev pub class_of : Bool → Option Letter → List ℕ → Item
 class_of ascii (Some (categories a b)) cs = Some (Category (if_flag ascii b a), cs)
@@ -101,7 +104,7 @@ or_item None y = y
 or_item (Some x) y = Some x
 
 abbrev pub item_at : Bool → Bool → List ℕ → Item
-item_at ascii first text = or_item (class_at ascii text) (span_or (member_at first text))
+item_at ascii first text = or_item (class_at ascii text) (range_or_one (member_at first text))
 
 abbrev pub Items : Type 0
 Items = Option (List UnitItem × List ℕ)
@@ -118,4 +121,6 @@ item_then (Some x) f = put_item x.0 (f x.1)
 abbrev pub items_at : ℕ → Bool → Bool → List ℕ → Items
 items_at zero ascii first text = None
 items_at (suc n) ascii first [] = None
-items_at (suc n) ascii first (c ∷ cs) = cond (c == 93 && not first) (Some ([], cs)) (item_then (item_at ascii first (c ∷ cs)) (items_at n ascii false))
+items_at (suc n) ascii first (c ∷ cs) =
+    cond (c == 93 && not first) (Some ([], cs))
+    (item_then (item_at ascii first (c ∷ cs)) (items_at n ascii false))

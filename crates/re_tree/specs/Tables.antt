@@ -19,7 +19,9 @@ pub data Sign : Type 0 where
 
 abbrev pub signs : List (ℕ × Sign)
 signs =
-    (92, escapes) ∷ (46, dots) ∷ (94, lines AT_BEGINNING AT_BEGINNING_LINE) ∷ (36, lines AT_END AT_END_LINE) ∷ (42, counts 0 None) ∷ (43, counts 1 None) ∷ (63, counts 0 (Some 1))
+    (92, escapes) ∷ (46, dots) ∷ (94, lines AT_BEGINNING AT_BEGINNING_LINE)
+    ∷ (36, lines AT_END AT_END_LINE) ∷ (42, counts 0 None) ∷ (43, counts 1 None)
+    ∷ (63, counts 0 (Some 1))
     ∷ (123, braces) ∷ (91, brackets) ∷ (40, opens) ∷ (41, closes) ∷ (124, splits) ∷ []
 
 -- what a letter after a backslash is
@@ -33,7 +35,8 @@ pub data Letter : Type 0 where
 
 abbrev pub letters : List (ℕ × Letter)
 letters =
-    (97, is_character_of 7) ∷ (102, is_character_of 12) ∷ (110, is_character_of 10) ∷ (114, is_character_of 13) ∷ (116, is_character_of 9) ∷ (118, is_character_of 11)
+    (97, is_character_of 7) ∷ (102, is_character_of 12) ∷ (110, is_character_of 10)
+    ∷ (114, is_character_of 13) ∷ (116, is_character_of 9) ∷ (118, is_character_of 11)
     ∷ (120, digits_follow 2) ∷ (117, digits_follow 4) ∷ (85, digits_follow 8)
     ∷ (100, categories CATEGORY_UNI_DIGIT CATEGORY_DIGIT)
     ∷ (68, categories CATEGORY_UNI_NOT_DIGIT CATEGORY_NOT_DIGIT)
@@ -42,7 +45,8 @@ letters =
     ∷ (119, categories CATEGORY_UNI_WORD CATEGORY_WORD)
     ∷ (87, categories CATEGORY_UNI_NOT_WORD CATEGORY_NOT_WORD)
     ∷ (65, anchors AT_BEGINNING AT_BEGINNING) ∷ (90, anchors AT_END_STRING AT_END_STRING)
-    ∷ (98, anchors AT_UNI_BOUNDARY AT_BOUNDARY) ∷ (66, anchors AT_UNI_NON_BOUNDARY AT_NON_BOUNDARY) ∷ []
+    ∷ (98, anchors AT_UNI_BOUNDARY AT_BOUNDARY) ∷ (66, anchors AT_UNI_NON_BOUNDARY AT_NON_BOUNDARY)
+    ∷ []
 
 -- what follows `(?`
 pub data Extension : Type 0 where
@@ -53,5 +57,6 @@ pub data Extension : Type 0 where
 
 abbrev pub extensions : List (ℕ × Extension)
 extensions =
-    (58, opens_as non_capturing) ∷ (62, opens_as atomic_opening) ∷ (61, opens_as (look_opening true false)) ∷ (33, opens_as (look_opening false false))
+    (58, opens_as non_capturing) ∷ (62, opens_as atomic_opening)
+    ∷ (61, opens_as (look_opening true false)) ∷ (33, opens_as (look_opening false false))
     ∷ (60, looks_behind) ∷ (80, has_name) ∷ (40, is_conditional) ∷ []

@@ -108,16 +108,27 @@ abbrev mutual
   code_text (unit test) = gcons (gcons (gnum 0) (code_test test)) gnil
   code_text (anchor k) = gcons (gcons (gnum 1) (gnum k)) gnil
   code_text (reference begin id) = gcons (gcons (gnum 2) (gcons (gnum begin) (code_group id))) gnil
-  code_text (conditional begin id met) = gcons (gcons (gnum 3) (gcons (gnum begin) (code_group id))) (gcons (code_text met) gnil)
-  code_text (conditional_else begin id met other) = gcons (gcons (gnum 4) (gcons (gnum begin) (code_group id))) (gcons (code_text met) (gcons (code_text other) gnil))
+  code_text (conditional begin id met) =
+      gcons (gcons (gnum 3) (gcons (gnum begin) (code_group id))) (gcons (code_text met) gnil)
+  code_text (conditional_else begin id met other) =
+      gcons (gcons (gnum 4) (gcons (gnum begin) (code_group id)))
+      (gcons (code_text met) (gcons (code_text other) gnil))
   code_text (sequence parts) = gcons (gcons (gnum 5) gnil) (code_texts parts)
   code_text (alternation branches) = gcons (gcons (gnum 6) gnil) (code_texts branches)
   code_text (counted begin least most mode body) =
-      gcons (gcons (gnum 7) (gcons (gcons (gnum begin) (gnum least)) (gcons (code_most most) (code_mode mode)))) (gcons (code_text body) gnil)
-  code_text (capture begin number name body) = gcons (gcons (gnum 8) (gcons (gcons (gnum begin) (gnum number)) (code_name name))) (gcons (code_text body) gnil)
+      gcons
+      (gcons (gnum 7)
+      (gcons (gcons (gnum begin) (gnum least)) (gcons (code_most most) (code_mode mode))))
+      (gcons (code_text body) gnil)
+  code_text (capture begin number name body) =
+      gcons (gcons (gnum 8) (gcons (gcons (gnum begin) (gnum number)) (code_name name)))
+      (gcons (code_text body) gnil)
   code_text (plain begin body) = gcons (gcons (gnum 9) (gnum begin)) (gcons (code_text body) gnil)
-  code_text (atomic_text begin body) = gcons (gcons (gnum 10) (gnum begin)) (gcons (code_text body) gnil)
-  code_text (look_text begin positive back body) = gcons (gcons (gnum 11) (gcons (gnum begin) (gcons (bit positive) (bit back)))) (gcons (code_text body) gnil)
+  code_text (atomic_text begin body) =
+      gcons (gcons (gnum 10) (gnum begin)) (gcons (code_text body) gnil)
+  code_text (look_text begin positive back body) =
+      gcons (gcons (gnum 11) (gcons (gnum begin) (gcons (bit positive) (bit back))))
+      (gcons (code_text body) gnil)
 
   code_texts : PlainTexts → Gv
   code_texts done = gnil
@@ -137,15 +148,20 @@ text_by zero x b = unit (test_by (num (first x)) (second x))
 text_by (suc zero) x b = anchor (num x)
 text_by (suc (suc zero)) x b = reference (num (first x)) (group_by (second x))
 text_by (suc (suc (suc zero))) x b = conditional (num (first x)) (group_by (second x)) (one b)
-text_by (suc (suc (suc (suc zero)))) x b = conditional_else (num (first x)) (group_by (second x)) (one b) (two b)
+text_by (suc (suc (suc (suc zero)))) x b =
+    conditional_else (num (first x)) (group_by (second x)) (one b) (two b)
 text_by (suc (suc (suc (suc (suc zero))))) x b = sequence b
 text_by (suc (suc (suc (suc (suc (suc zero)))))) x b = alternation b
 text_by (suc (suc (suc (suc (suc (suc (suc zero))))))) x b =
-    counted (num (first (first x))) (num (second (first x))) (most_by (first (second x))) (mode_by (num (second (second x)))) (one b)
-text_by (suc (suc (suc (suc (suc (suc (suc (suc zero)))))))) x b = capture (num (first (first x))) (num (second (first x))) (name_by (second x)) (one b)
+    counted (num (first (first x))) (num (second (first x))) (most_by (first (second x)))
+    (mode_by (num (second (second x)))) (one b)
+text_by (suc (suc (suc (suc (suc (suc (suc (suc zero)))))))) x b =
+    capture (num (first (first x))) (num (second (first x))) (name_by (second x)) (one b)
 text_by (suc (suc (suc (suc (suc (suc (suc (suc (suc zero))))))))) x b = plain (num x) (one b)
-text_by (suc (suc (suc (suc (suc (suc (suc (suc (suc (suc zero)))))))))) x b = atomic_text (num x) (one b)
-text_by (suc (suc (suc (suc (suc (suc (suc (suc (suc (suc (suc n))))))))))) x b = look_text (num (first x)) (truth (first (second x))) (truth (second (second x))) (one b)
+text_by (suc (suc (suc (suc (suc (suc (suc (suc (suc (suc zero)))))))))) x b =
+    atomic_text (num x) (one b)
+text_by (suc (suc (suc (suc (suc (suc (suc (suc (suc (suc (suc n))))))))))) x b =
+    look_text (num (first x)) (truth (first (second x))) (truth (second (second x))) (one b)
 
 -- what a code is as a part, and as parts
 abbrev back : Gv → PlainText × PlainTexts
@@ -196,21 +212,31 @@ abbrev mutual
   text-code (anchor k) = refl
   text-code (reference begin id) = ap (reference begin) (group-code id)
   text-code (conditional begin id met) = λ i. conditional begin (group-code id i) (text-code met i)
-  text-code (conditional_else begin id met other) = λ i. conditional_else begin (group-code id i) (text-code met i) (text-code other i)
+  text-code (conditional_else begin id met other) =
+      λ i. conditional_else begin (group-code id i) (text-code met i) (text-code other i)
   text-code (sequence parts) = ap sequence (texts-code parts)
   text-code (alternation branches) = ap alternation (texts-code branches)
-  text-code (counted begin least most mode body) = λ i. counted begin least (most-code most i) (mode-code mode i) (text-code body i)
-  text-code (capture begin number name body) = λ i. capture begin number (name-code name i) (text-code body i)
+  text-code (counted begin least most mode body) =
+      λ i. counted begin least (most-code most i) (mode-code mode i) (text-code body i)
+  text-code (capture begin number name body) =
+      λ i. capture begin number (name-code name i) (text-code body i)
   text-code (plain begin body) = ap (plain begin) (text-code body)
   text-code (atomic_text begin body) = ap (atomic_text begin) (text-code body)
-  text-code (look_text begin positive back body) = λ i. look_text begin (truth-bit positive i) (truth-bit back i) (text-code body i)
+  text-code (look_text begin positive back body) =
+      λ i. look_text begin (truth-bit positive i) (truth-bit back i) (text-code body i)
 
   pub texts-code : (rs : PlainTexts) → (back (code_texts rs)).1 ≡ rs
   texts-code done = refl
   texts-code (r also rs) = λ i. text-code r i also texts-code rs i
 
 abbrev pub plain_text_code : Coded PlainText
-plain_text_code = record { code = code_text; inj = λ x y p. sym (text-code x) ∙ ap (λ g. (back g).0) p ∙ text-code y }
+plain_text_code = record {
+  code = code_text;
+  inj = λ x y p. sym (text-code x) ∙ ap (λ g. (back g).0) p ∙ text-code y;
+}
 
 abbrev pub plain_texts_code : Coded PlainTexts
-plain_texts_code = record { code = code_texts; inj = λ x y p. sym (texts-code x) ∙ ap (λ g. (back g).1) p ∙ texts-code y }
+plain_texts_code = record {
+  code = code_texts;
+  inj = λ x y p. sym (texts-code x) ∙ ap (λ g. (back g).1) p ∙ texts-code y;
+}

@@ -8,7 +8,7 @@ pub data Opening : Type 0 where
   capturing : (name : Option (List ℕ)) → Opening
   non_capturing : Opening
   atomic_opening : Opening
-  look_opening : (positive behind : Bool) → Opening
+  look_opening : (positive back : Bool) → Opening
   conditional_opening : (id : GroupName) → Opening
 
 pub data Token : Type 0 where
@@ -25,15 +25,22 @@ abbrev mutual
   tokens_of (unit test) = unit_token test ∷ []
   tokens_of (anchor k) = anchor_token k ∷ []
   tokens_of (reference begin id) = reference_token begin id ∷ []
-  tokens_of (conditional begin id met) = open_token begin (conditional_opening id) ∷ (tokens_of met ++ close ∷ [])
-  tokens_of (conditional_else begin id met other) = open_token begin (conditional_opening id) ∷ (tokens_of met ++ bar ∷ (tokens_of other ++ close ∷ []))
+  tokens_of (conditional begin id met) =
+      open_token begin (conditional_opening id) ∷ (tokens_of met ++ close ∷ [])
+  tokens_of (conditional_else begin id met other) =
+      open_token begin (conditional_opening id)
+      ∷ (tokens_of met ++ bar ∷ (tokens_of other ++ close ∷ []))
   tokens_of (sequence parts) = tokens_in_turn parts
   tokens_of (alternation branches) = tokens_between branches
-  tokens_of (counted begin least most mode body) = tokens_of body ++ count_token begin least most mode ∷ []
-  tokens_of (capture begin number name body) = open_token begin (capturing name) ∷ (tokens_of body ++ close ∷ [])
+  tokens_of (counted begin least most mode body) =
+      tokens_of body ++ count_token begin least most mode ∷ []
+  tokens_of (capture begin number name body) =
+      open_token begin (capturing name) ∷ (tokens_of body ++ close ∷ [])
   tokens_of (plain begin body) = open_token begin non_capturing ∷ (tokens_of body ++ close ∷ [])
-  tokens_of (atomic_text begin body) = open_token begin atomic_opening ∷ (tokens_of body ++ close ∷ [])
-  tokens_of (look_text begin positive back body) = open_token begin (look_opening positive back) ∷ (tokens_of body ++ close ∷ [])
+  tokens_of (atomic_text begin body) =
+      open_token begin atomic_opening ∷ (tokens_of body ++ close ∷ [])
+  tokens_of (look_text begin positive back body) =
+      open_token begin (look_opening positive back) ∷ (tokens_of body ++ close ∷ [])
 
   pub tokens_in_turn : PlainTexts → List Token
   tokens_in_turn done = []

@@ -1,4 +1,4 @@
-//! How a pattern is read.
+//! The flags of a pattern.
 
 /// How a pattern is read.
 #[derive(Clone, Copy, PartialEq, Eq, Debug)]

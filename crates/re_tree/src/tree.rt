@@ -38,7 +38,7 @@ pub enum GroupId {
 pub enum TextTree {
     /// One unit that meets the test.
     Unit(UnitTest),
-    /// An anchor, by its number among the `AT_` names of `sre_code::opcodes`.
+    /// An anchor, by its number in `re_tree::anchors`.
     Place(u32),
     /// A back reference.
     Reference {
@@ -81,7 +81,7 @@ pub enum TextTree {
         at: usize,
         body: TextBody,
     },
-    /// A lookahead, or, where `back` is true, a lookbehind. Where `positive` is false, its body must
+    /// A lookahead or, where `back` is true, a lookbehind. Where `positive` is false, its body must
     /// not match.
     Look {
         at: usize,

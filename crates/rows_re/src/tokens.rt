@@ -78,7 +78,7 @@ fn long(rt: HostRuntime) -> Result<(), AllocError> {
     Ok(())
 }
 
-// The bounds of the count at the front, where 32 bits hold them.
+// The bounds of the count at the beginning, where 32 bits hold them.
 fn bounds(alloc: Global, text: &str) -> Result<(Option<u32>, Option<u32>), AllocError> {
     let all = characters(alloc, text)?;
     match next_token(alloc, FLAGS, 0, &all)? {

@@ -15,7 +15,7 @@ use crate::token::Token;
 use re_tree::{CountMode, UnitTest};
 use std::alloc::{AllocError, Global};
 
-// The digits at the front, and what is left.
+// The digits at the beginning, and what is left.
 fn digits(text: &[char]) -> (&[char], &[char])
     ensures digits { result.0.now ≡ spec.digits_of text.now }
     ensures rest { result.1.now ≡ spec.after_digits text.now }

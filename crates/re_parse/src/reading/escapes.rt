@@ -18,7 +18,7 @@ use crate::number::Number;
 use crate::reading::Found;
 use crate::reading::characters::{hex, is_ascii_non_alphanumeric, is_digit, is_octal};
 use crate::reading::letters::{Letter, letter_at, number};
-use crate::token::{GroupName, Token};
+use crate::token::{GroupId, Token};
 use re_tree::{TextFlags, UnitItem, UnitItems, UnitTest};
 use std::alloc::{AllocError, Global};
 
@@ -33,7 +33,7 @@ fn reference(alloc: Global, begin: usize, digits: &[char]) -> Result<Token, Allo
     ensures { IfOk result (λ t. token_of t ≡ reference_token begin (numbered (value digits.now))) }
 {
     let number = Number::from_digits(alloc, digits)?;
-    Ok(Token::Reference(begin, GroupName::Number(number)))
+    Ok(Token::Reference(begin, GroupId::Number(number)))
 }
 
 // A back reference after its first digit.

@@ -10,7 +10,7 @@ ghost use Rattle.re_parse.specs.TokenView.{points, group_named};
 
 use crate::number::Number;
 use crate::reading::characters::is_digit;
-use crate::token::GroupName;
+use crate::token::GroupId;
 use py_text::PyStr;
 use std::alloc::{AllocError, Global};
 
@@ -52,12 +52,12 @@ fn are_digits(characters: &[char]) -> bool
 }
 
 // The number or the name that these characters are.
-pub(crate) fn group(alloc: Global, characters: &[char]) -> Result<GroupName, AllocError>
+pub(crate) fn group(alloc: Global, characters: &[char]) -> Result<GroupId, AllocError>
     ensures { IfOk result (λ id. group_named id ≡ grammar.id_of characters.now) }
 {
     if !characters.is_empty() && are_digits(characters) {
-        Ok(GroupName::Number(Number::from_digits(alloc, characters)?))
+        Ok(GroupId::Number(Number::from_digits(alloc, characters)?))
     } else {
-        Ok(GroupName::Name(name(alloc, characters)?))
+        Ok(GroupId::Name(name(alloc, characters)?))
     }
 }

@@ -9,7 +9,7 @@ ghost use Rattle.re_parse.specs.TokenView.{opening_of, Reads};
 
 use crate::reading::Found;
 use crate::reading::names::{group, name, up_to};
-use crate::token::{GroupName, Opening, Token};
+use crate::token::{GroupId, Opening, Token};
 use std::alloc::{AllocError, Global};
 
 // A token of an opening parenthesis.
@@ -19,11 +19,32 @@ fn open(begin: usize, opening: Opening, rest: &[char]) -> Found
     Ok(Some((Token::Open(begin, opening), rest)))
 }
 
-// A lookaround.
-fn look(begin: usize, positive: bool, behind: bool, rest: &[char]) -> Found
-    ensures { Reads (Some (open_token begin (look_opening positive behind), rest.now)) result }
+// A lookahead.
+fn lookahead(begin: usize, positive: bool, rest: &[char]) -> Found
+    ensures { Reads (Some (open_token begin (look_opening positive false), rest.now)) result }
 {
-    open(begin, Opening::Look { positive, behind }, rest)
+    open(
+        begin,
+        Opening::Look {
+            positive,
+            back: false,
+        },
+        rest,
+    )
+}
+
+// A lookbehind, after `(?<` and the character that says whether it is positive.
+fn look_back(begin: usize, positive: bool, rest: &[char]) -> Found
+    ensures { Reads (Some (open_token begin (look_opening positive true), rest.now)) result }
+{
+    open(
+        begin,
+        Opening::Look {
+            positive,
+            back: true,
+        },
+        rest,
+    )
 }
 
 // A lookbehind, after `(?<`.
@@ -31,8 +52,8 @@ fn lookbehind(begin: usize, text: &[char]) -> Found
     ensures { Reads (spec.lookbehind_token begin text.now) result }
 {
     match text {
-        ['=', rest @ ..] => look(begin, true, true, rest),
-        ['!', rest @ ..] => look(begin, false, true, rest),
+        ['=', rest @ ..] => look_back(begin, true, rest),
+        ['!', rest @ ..] => look_back(begin, false, rest),
         _ => Ok(None),
     }
 }
@@ -60,7 +81,7 @@ fn named_reference(alloc: Global, begin: usize, text: &[char]) -> Found
     match up_to(')', text) {
         None => Ok(None),
         Some((characters, rest)) => {
-            let id = GroupName::Name(name(alloc, characters)?);
+            let id = GroupId::Name(name(alloc, characters)?);
             Ok(Some((Token::Reference(begin, id), rest)))
         }
     }
@@ -98,8 +119,8 @@ fn extension(alloc: Global, begin: usize, c: char, rest: &[char]) -> Found
     match c {
         ':' => open(begin, Opening::NonCapturing, rest),
         '>' => open(begin, Opening::Atomic, rest),
-        '=' => look(begin, true, false, rest),
-        '!' => look(begin, false, false, rest),
+        '=' => lookahead(begin, true, rest),
+        '!' => lookahead(begin, false, rest),
         '<' => lookbehind(begin, rest),
         'P' => named(alloc, begin, rest),
         '(' => conditional(alloc, begin, rest),

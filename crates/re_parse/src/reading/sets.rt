@@ -100,7 +100,7 @@ fn category(ascii: bool, text: &[char]) -> Option<(UnitItem, &[char])>
 
 // The last character of a range, after its `-`.
 fn range(low: char, text: &[char]) -> Option<(UnitItem, &[char])>
-    ensures { rest_of result ≡ spec.close_span low (spec.member_at false text.now) }
+    ensures { rest_of result ≡ spec.close_range low (spec.member_at false text.now) }
 {
     match member(false, text) {
         None => None,
@@ -116,7 +116,7 @@ fn range(low: char, text: &[char]) -> Option<(UnitItem, &[char])>
 
 // A range, or one character.
 fn range_or_one(first: bool, text: &[char]) -> Option<(UnitItem, &[char])>
-    ensures { rest_of result ≡ spec.span_or (spec.member_at first text.now) }
+    ensures { rest_of result ≡ spec.range_or_one (spec.member_at first text.now) }
 {
     match member(first, text) {
         None => None,
