@@ -8,7 +8,7 @@ use Rattle.py_spec.specs.declared.percent.parts.CConversionFlags.{CConversionFla
 use Rattle.py_spec.specs.Percent.Flags.{flag, flags_by_sign, flags_on, read_flags, with_flags}
 use Rattle.py_spec.specs.Percent.Literals.{literal, put_first}
 use Rattle.py_spec.specs.Percent.Reading.{Read, open_after, key_on, key_in, key_text, read_key, is_digit, read_digits, amount_in, most, read_amount, read_quantity, read_precision, skip_length, types, typed, read_type, read_specifier, place_of}
-use Rattle.py_spec.specs.Percent.Template.{Turn, specifier_after, read_turn}
+use Rattle.py_spec.specs.Percent.Template.{Chunk, specifier_after, read_chunk}
 
 -- what is left is no longer than this
 abbrev pub Within : {A : Type 0} → List ℕ → Read A → Type 0
@@ -93,9 +93,9 @@ after_literal : (n : ℕ) (text cs : List ℕ) (most : ℕ) → length cs ≤ mo
 after_literal n text [] most h z = ok (omega (arith, z))
 after_literal n text (c ∷ cs) most h z = then_holds (a_specifier n cs) λ s x p. ok (omega (arith, p, h))
 
--- a turn takes something
-a_turn : (n : ℕ) (cs : List ℕ) → 0 < length cs → Holds (λ t x. length x < length cs) (read_turn n cs)
-a_turn n cs h = after_literal n (literal cs).0 (literal cs).1 (length cs) (literal_within cs) h
+-- a chunk takes something
+a_chunk : (n : ℕ) (cs : List ℕ) → 0 < length cs → Holds (λ t x. length x < length cs) (read_chunk n cs)
+a_chunk n cs h = after_literal n (literal cs).0 (literal cs).1 (length cs) (literal_within cs) h
 
-pub turn_shorter : (n : ℕ) (cs rest : List ℕ) (turn : Turn) → 0 < length cs → Ok (turn, rest) ≡ read_turn n cs → length rest < length cs
-turn_shorter n cs rest turn h e = (a_turn n cs h).by turn rest (sym e)
+pub chunk_shorter : (n : ℕ) (cs rest : List ℕ) (chunk : Chunk) → 0 < length cs → Ok (chunk, rest) ≡ read_chunk n cs → length rest < length cs
+chunk_shorter n cs rest chunk h e = (a_chunk n cs h).by chunk rest (sym e)

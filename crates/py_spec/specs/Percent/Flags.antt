@@ -15,7 +15,8 @@ with_flags a b = flag (bit_or a.0 b.0)
 abbrev pub flags_by_sign : List (ℕ × CConversionFlags)
 flags_by_sign = (35, flag 1) ∷ (48, flag 2) ∷ (45, flag 4) ∷ (32, flag 8) ∷ (43, flag 16) ∷ []
 
-abbrev pub flags_on : Option CConversionFlags → CConversionFlags → List ℕ → (CConversionFlags → CConversionFlags × List ℕ) → CConversionFlags × List ℕ
+abbrev pub flags_on : Option CConversionFlags → CConversionFlags → List ℕ
+    → (CConversionFlags → CConversionFlags × List ℕ) → CConversionFlags × List ℕ
 flags_on None flags cs next = (flags, cs)
 flags_on (Some f) flags cs next = next (with_flags flags f)
 

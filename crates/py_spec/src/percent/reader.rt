@@ -1,4 +1,5 @@
-//! A percent template that is read from its front, a character at a time, or up to the next `%`.
+//! A percent template that is read from its beginning, a character at a time, or up to the next
+//! `%`.
 
 ghost use Rattle.std.specs.Prelude.{◌≡◌, ◌∷◌, ◌++◌, ◌&&◌, [], chars, take, drop, length, IsCharBoundary, MatchOption, OnOk, IsOkUnless, if◌then◌else◌};
 ghost use Rattle.py_base.specs.Reading.{is_next};
@@ -118,9 +119,9 @@ impl<'t> Reader<'t> {
         ensures rest { OnOk result (self.new ≡ spec.after_plain self.old) }
         ensures err { IsOkUnless result PyError.NoMemory }
     {
-        let (front, rest) = self.rest.split_at(plain_len(self.rest));
+        let (passed, rest) = self.rest.split_at(plain_len(self.rest));
         let before = text.len();
-        text.append(front)?;
+        text.append(passed)?;
         self.left -= text.len() - before;
         self.rest = rest;
         Ok(())

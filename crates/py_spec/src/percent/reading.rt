@@ -15,6 +15,9 @@ use py_base::{CarryKind, PercentFault, PyError, PyResult};
 use py_text::PyStr;
 use std::alloc::Global;
 
+// The greatest width or precision.
+const MAX_QUANTITY: usize = 2_147_483_647;
+
 // How many parentheses are open after a character of a key; none where it closes the key.
 fn open_after(level: usize, c: char) -> Option<usize>
     requires { level + 1 < 2 ^ 64 }
@@ -135,7 +138,7 @@ impl<'t> Reader<'t> {
         flags
     }
 
-    // The number that the next digits spell, or none past 2147483647.
+    // The number that the next digits spell, or none past the greatest.
     fn digits(&mut self) -> Option<usize>
         ensures { spec.DigitsGive self.old result self.new }
     {
@@ -146,7 +149,7 @@ impl<'t> Reader<'t> {
             }
             self.skip();
             amount = amount * 10 + (c as usize).saturating_sub(48);
-            if amount > 2147483647 {
+            if amount > MAX_QUANTITY {
                 return None;
             }
         }

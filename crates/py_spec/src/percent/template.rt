@@ -1,4 +1,4 @@
-//! The parts of a percent template.
+//! A percent template, read: its parts with their places, or its first fault.
 
 ghost use Rattle.std.specs.Prelude.{◌≡◌, ◌<◌, ◌++◌, ◌∷◌, [], None, Some, length, slice_get, OnOk, IfOk, IsOkUnless, MatchOption};
 ghost use Rattle.py_spec.specs.Percent.Literals.{literal};
@@ -30,10 +30,10 @@ impl Model for CFormatString {
 }
 
 // A literal, and the specifier after it with its place.
-type Turn = (PyStr, Option<(usize, CFormatSpec)>);
+type Chunk = (PyStr, Option<(usize, CFormatSpec)>);
 
 impl<'t> Reader<'t> {
-    // The longest literal at the front.
+    // The longest literal at the beginning.
     fn literal(&mut self, alloc: Global) -> PyResult<PyStr>
         ensures ok { IfOk result (λ text. literal self.old ≡ (text, self.new)) }
         ensures err { IsOkUnless result PyError.NoMemory }
@@ -48,8 +48,8 @@ impl<'t> Reader<'t> {
     }
 
     // A literal, and the specifier after it.
-    fn turn(&mut self, alloc: Global, whole: usize) -> PyResult<Turn>
-        ensures { Meets (spec.read_turn whole self.old) (with_rest result self.new) }
+    fn chunk(&mut self, alloc: Global, whole: usize) -> PyResult<Chunk>
+        ensures { Meets (spec.read_chunk whole self.old) (with_rest result self.new) }
     {
         let text = self.literal(alloc)?;
         let place = self.place(whole);
@@ -57,8 +57,8 @@ impl<'t> Reader<'t> {
             return Ok((text, None));
         }
         self.skip();
-        let read = self.specifier(alloc, whole)?;
-        Ok((text, Some((place, read))))
+        let specifier = self.specifier(alloc, whole)?;
+        Ok((text, Some((place, specifier))))
     }
 }
 
@@ -83,23 +83,23 @@ impl CFormatString {
         self.put(place, CFormatPart::Literal(text))
     }
 
-    fn put_spec(&mut self, read: Option<(usize, CFormatSpec)>) -> PyResult<()>
-        ensures ok { OnOk result (self.new ≡ self.old ++ spec.spec_part read) }
+    fn put_spec(&mut self, specifier: Option<(usize, CFormatSpec)>) -> PyResult<()>
+        ensures ok { OnOk result (self.new ≡ self.old ++ spec.spec_part specifier) }
         ensures err { IsOkUnless result PyError.NoMemory }
     {
-        match read {
-            Some((place, read)) => self.put(place, CFormatPart::Spec(read)),
+        match specifier {
+            Some((place, specifier)) => self.put(place, CFormatPart::Spec(specifier)),
             None => Ok(()),
         }
     }
 
-    fn put_turn(&mut self, place: usize, turn: Turn) -> PyResult<()>
-        ensures ok { OnOk result (self.new ≡ self.old ++ spec.turn_parts place turn) }
+    fn put_chunk(&mut self, place: usize, chunk: Chunk) -> PyResult<()>
+        ensures ok { OnOk result (self.new ≡ self.old ++ spec.chunk_parts place chunk) }
         ensures err { IsOkUnless result PyError.NoMemory }
     {
-        let (text, read) = turn;
+        let (text, specifier) = chunk;
         self.put_literal(place, text)?;
-        self.put_spec(read)
+        self.put_spec(specifier)
     }
 
     /// The parts of a template: literals in longest runs and specifiers, each with the place where
@@ -118,8 +118,8 @@ impl CFormatString {
         let mut reader = Reader::new(text);
         while reader.left() > 0 {
             let place = reader.place(whole);
-            let turn = reader.turn(alloc, whole)?;
-            made.put_turn(place, turn)?;
+            let chunk = reader.chunk(alloc, whole)?;
+            made.put_chunk(place, chunk)?;
         }
         Ok(made)
     }
