@@ -57,7 +57,8 @@ abbrev pub Comes : {A : Type 0} → Seen → Seen → Asking A → Result A PyEr
 Comes old new (gives r) result = result ≡ r
 Comes old new (asks h m k next) result =
     ((result ≡ Err HostFault) × Rose old.faults new.faults)
-    ⊎ ((a : Option Plain) × (IfSome old.table (λ t. t.answer h m k ≡ a)) × Comes old new (next a) result)
+    ⊎ ((a : Option Plain) × (IfSome old.table (λ t. t.answer h m k ≡ a))
+    × Comes old new (next a) result)
 Comes old new (tests h next) result =
     (b : Bool) × (IfSome old.table (λ t. t.has_items h ≡ b)) × Comes old new (next b) result
 
@@ -76,7 +77,8 @@ Meets want result = MeetsUnless no_memory want result
 
 -- what a call with a host promises: the table is as before, the count of faults did not fall, and
 -- the result is one that the definition comes to
-pub record Answers {A : Type 0} (call : Asking A) (old new : Seen) (result : Result A PyError) : Type 0 where
+pub record Answers {A : Type 0} (call : Asking A) (old new : Seen)
+    (result : Result A PyError) : Type 0 where
   pub kept : new.table ≡ old.table
   pub later : old.faults ≤ new.faults
   pub comes : UnlessOutOfMemory result (Comes old new call result)
