@@ -9,7 +9,7 @@ use timed_calls::Request;
 const USAGE: &str = "bench_driver NAME SIZE TIMES: no such call, or no such number";
 
 // Says that the words ask for nothing.
-fn refused(rt: &HostRuntime) -> io::Result<ExitCode> {
+fn wrong_words(rt: &HostRuntime) -> io::Result<ExitCode> {
     eprintln!(rt; "{USAGE}")?;
     Ok(ExitCode::from(2))
 }
@@ -17,7 +17,7 @@ fn refused(rt: &HostRuntime) -> io::Result<ExitCode> {
 // Makes the calls that three words ask for.
 fn run(rt: &HostRuntime, name: &str, size: &str, times: &str) -> io::Result<ExitCode> {
     let Some(request) = Request::of_words(name, size, times) else {
-        return refused(rt);
+        return wrong_words(rt);
     };
     match request.sum(rt.alloc()) {
         Ok(sum) => {
@@ -36,10 +36,10 @@ fn main(rt: HostRuntime) -> io::Result<ExitCode> {
     let words = match arguments(&rt) {
         Ok(words) => words,
         Err(error) if error.kind() == io::ErrorKind::OutOfMemory => return Err(error),
-        Err(_) => return refused(&rt),
+        Err(_) => return wrong_words(&rt),
     };
     match words.as_slice() {
         [name, size, times] => run(&rt, name.as_str(), size.as_str(), times.as_str()),
-        _ => refused(&rt),
+        _ => wrong_words(&rt),
     }
 }

@@ -22,7 +22,7 @@ from_to start stop = record { start = start; stop = stop; marks = [] }
 abbrev pub a_any : PlainTree
 a_any = lit 97 then any_all then nothing
 
--- `a*`, `a*?`, `a*+`
+-- `a*?` and `a*+`
 abbrev pub lazy_star : PlainTree
 lazy_star = repeat Lazy true 0 MAXREPEAT (lit 97 then nothing) then nothing
 
