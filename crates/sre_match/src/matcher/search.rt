@@ -42,7 +42,7 @@ pub fn first_end<'c, S: StrDrive, L: Ledger>(
     ensures cost { let r = request.now in
         steps.new ≤ steps.old + reads r.tree r.subject start.now.place (allowed_in r advance) }
 {
-    let subject = Subject::new(&request.string, request.end);
+    let subject = subject_of(request);
     let code = request.code;
     let ends = AllowedEnds {
         advance,
@@ -59,7 +59,7 @@ fn one_on<S: StrDrive>(request: &Request<'_, S>, cursor: &StringCursor) -> Optio
     ensures inside { IfSome result (λ c. c.place ≤ length request.now.subject) }
     ensures none { result ≡ None → cursor.now.place ≡ length request.now.subject }
 {
-    let subject = Subject::new(&request.string, request.end);
+    let subject = subject_of(request);
     if cursor.place >= subject.count() {
         return None;
     }
