@@ -1,6 +1,11 @@
+mod FillLemmas
 mod KeyLemmas
+mod LawLemmas
 mod LengthLemmas
 mod LiteralLemmas
+mod NarrowLemmas
+mod NumeralLemmas
 mod PartLemmas
 mod ReaderLemmas
 mod RunLemmas
+mod WritingLemmas

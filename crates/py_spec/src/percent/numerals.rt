@@ -32,7 +32,7 @@ fn put_digits(room: &mut [u8; ROOM], n: u128, base: u128, upper: bool) -> usize
 {
     let mut left = n;
     let mut at = ROOM;
-    while left >= base {
+    'digits: while left >= base {
         at -= 1;
         room[at] = glyph((left % base) as u8, upper);
         left /= base;

@@ -1,0 +1,115 @@
+-- What the laws of percent templates rest on.
+use Rattle.std.proofs.Common.{◌≡◌, ◌∙◌, ◌×◌, ℕ, zero, suc, ◌+◌, ◌-◌, ◌<◌, ◌≤◌, Bool, true, false, not, ◌&&◌, nat_lt, if◌then◌else◌, List, [], ◌∷◌, ◌++◌, length, sym, ap, subst, refl, arith, Option, Some, None}
+use Rattle.std.specs.Prelude.{Result, Ok, Err, ℤ, MatchOption, ⊤}
+use Rattle.std.proofs.lemmas.Bool.Decides.{nat_tests}
+use Rattle.py_base.specs.Reading.{◌and_then◌}
+use Rattle.py_base.specs.declared.error.PyError.{PyError}
+use Rattle.py_base.proofs.HoldsLemmas.{Holds, ok, bad, then_holds}
+use Rattle.py_spec.specs.declared.percent.parts.CFormatSpec.{CFormatSpec}
+use Rattle.py_spec.specs.Laws.{FullLiterals, LiteralsApart, MoreRoomChangesNothing, NumbersFillTheWidth, StringsFillTheWidth, all_full, literals_apart}
+use Rattle.py_spec.specs.Percent.Literals.{literal}
+use Rattle.py_spec.specs.Percent.Reading.{Read, place_of, read_specifier}
+use Rattle.py_spec.specs.Percent.Template.{Turn, Parts, specifier_after, read_turn, turn_parts, read_parts, value_of, percent_parts}
+use Rattle.py_spec.specs.Percent.Writing.{width_in, short_of, sides, filled, cut, most_units, string_units, number_text}
+use Rattle.py_spec.proofs.FillLemmas.{between_length, sides_sum}
+use Rattle.py_spec.proofs.LengthLemmas.{turn_shorter}
+
+-- the parts after a turn
+abbrev after_turn : ℕ → ℕ → ℕ → Read Turn → Read Parts
+after_turn k n place r = r and_then λ turn rest. read_parts k n rest and_then λ parts end. Ok (turn_parts place turn ++ parts, end)
+
+pub more_room : MoreRoomChangesNothing
+more_room zero more n cs h = absurd (omega (arith, h))
+more_room (suc k) more n [] h = ap (λ (j : ℕ). read_parts j n []) {x = suc k + more} {y = suc (k + more)} (omega arith)
+more_room (suc k) more n (c ∷ cs) h = ap (λ (j : ℕ). read_parts j n (c ∷ cs)) {x = suc k + more} {y = suc (k + more)} (omega arith) ∙ by_turn (read_turn n (c ∷ cs)) refl where
+  by_turn : (r : Read Turn) → read_turn n (c ∷ cs) ≡ r → after_turn (k + more) n (place_of n (c ∷ cs)) r ≡ after_turn k n (place_of n (c ∷ cs)) r
+  by_turn (Ok t) e = ap (λ (r : Read Parts). r and_then λ parts end. Ok (turn_parts (place_of n (c ∷ cs)) t.0 ++ parts, end)) (more_room k more n t.1 (omega (arith, h, turn_shorter n (c ∷ cs) t.1 t.0 (omega arith) (sym e))))
+  by_turn (Err w) e = refl
+
+-- what is true of the parts that are read is true of the parts of a template
+of_parts : (P : Parts → Type 0) (r : Read Parts) (ps : Parts) → Holds (λ qs x. P qs) r → value_of r ≡ Ok ps → P ps
+of_parts P (Ok q) ps h e = let same : q.0 ≡ ps = cc e in subst P same (h.by q.0 q.1 refl)
+of_parts P (Err w) ps h e = let f : ⊥ = cc e in absurd f
+
+-- no literal is empty
+both : (a b : Bool) → a ≡ true → b ≡ true → (a && b) ≡ true
+both true true h k = refl
+both true false h k = k
+both false b h k = h
+
+full_joined : (ps qs : Parts) → all_full ps ≡ true → all_full qs ≡ true → all_full (ps ++ qs) ≡ true
+full_joined [] qs h k = k
+full_joined (p ∷ ps) qs h k = grind (h, k, full_joined ps qs)
+
+full_turn : (place : ℕ) (text : List ℕ) (read : Option (ℕ × CFormatSpec)) → all_full (turn_parts place (text, read)) ≡ true
+full_turn place [] None = refl
+full_turn place [] (Some s) = refl
+full_turn place (c ∷ cs) None = grind (arith, nat_tests)
+full_turn place (c ∷ cs) (Some s) = grind (arith, nat_tests)
+
+any_turn : (r : Read Turn) → Holds (λ (t : Turn) x. ⊤) r
+any_turn (Ok r) = ok tt
+any_turn (Err e) = bad
+
+full_parts : (k n : ℕ) (cs : List ℕ) → Holds (λ ps x. all_full ps ≡ true) (read_parts k n cs)
+full_parts zero n cs = ok refl
+full_parts (suc k) n [] = ok refl
+full_parts (suc k) n (c ∷ cs) =
+    then_holds (any_turn (read_turn n (c ∷ cs))) λ turn x p.
+    then_holds (full_parts k n x) λ ps y q.
+    ok (full_joined (turn_parts (place_of n (c ∷ cs)) turn) ps (full_turn (place_of n (c ∷ cs)) turn.0 turn.1) q)
+
+pub full_literals : FullLiterals
+full_literals cs ps e = of_parts (λ qs. all_full qs ≡ true) (read_parts (suc (length cs)) (length cs) cs) ps (full_parts (suc (length cs)) (length cs) cs) e
+
+-- a turn without a specifier is the last one
+abbrev EndsOrSpec : Turn → List ℕ → Type 0
+EndsOrSpec t x = MatchOption t.1 (x ≡ []) (λ s. ⊤)
+
+spec_read : (r : Read CFormatSpec) → Holds (λ (s : CFormatSpec) x. ⊤) r
+spec_read (Ok r) = ok tt
+spec_read (Err e) = bad
+
+after_literal : (n : ℕ) (text cs : List ℕ) → Holds EndsOrSpec (specifier_after n text cs)
+after_literal n text [] = ok refl
+after_literal n text (c ∷ cs) = then_holds (spec_read (read_specifier n cs)) λ s x p. ok tt
+
+a_turn : (n : ℕ) (cs : List ℕ) → Holds EndsOrSpec (read_turn n cs)
+a_turn n cs = after_literal n (literal cs).0 (literal cs).1
+
+none_after : (k n : ℕ) (cs : List ℕ) → cs ≡ [] → Holds (λ (ps : Parts) x. ps ≡ []) (read_parts k n cs)
+none_after zero n cs e = ok refl
+none_after (suc k) n [] e = ok refl
+none_after (suc k) n (c ∷ cs) e = let f : ⊥ = cc e in absurd f
+
+-- the parts of a turn before other parts, which are none where the turn has no specifier
+apart_turn : (place : ℕ) (text : List ℕ) (read : Option (ℕ × CFormatSpec)) (ps : Parts) → MatchOption read (ps ≡ []) (λ s. ⊤) → literals_apart ps ≡ true → literals_apart (turn_parts place (text, read) ++ ps) ≡ true
+apart_turn place [] None ps n h = h
+apart_turn place (c ∷ cs) None ps n h = ap (λ (qs : Parts). literals_apart (turn_parts place (c ∷ cs, None) ++ qs)) n
+apart_turn place [] (Some s) ps n h = h
+apart_turn place (c ∷ cs) (Some s) ps n h = h
+
+parts_after : (k n : ℕ) (read : Option (ℕ × CFormatSpec)) (x : List ℕ) → MatchOption read (x ≡ []) (λ s. ⊤) → Holds (λ ps y. literals_apart ps ≡ true) (read_parts k n x) → Holds (λ ps y. MatchOption read (ps ≡ []) (λ s. ⊤) × (literals_apart ps ≡ true)) (read_parts k n x)
+parts_after k n None x e h = record { by = λ ps y r. ((none_after k n x e).by ps y r, h.by ps y r) }
+parts_after k n (Some s) x e h = record { by = λ ps y r. (tt, h.by ps y r) }
+
+apart_parts : (k n : ℕ) (cs : List ℕ) → Holds (λ ps x. literals_apart ps ≡ true) (read_parts k n cs)
+apart_parts zero n cs = ok refl
+apart_parts (suc k) n [] = ok refl
+apart_parts (suc k) n (c ∷ cs) =
+    then_holds (a_turn n (c ∷ cs)) λ turn x p.
+    then_holds (parts_after k n turn.1 x p (apart_parts k n x)) λ ps y q.
+    ok (apart_turn (place_of n (c ∷ cs)) turn.0 turn.1 ps q.0 q.1)
+
+pub apart : LiteralsApart
+apart cs ps e = of_parts (λ qs. literals_apart qs ≡ true) (read_parts (suc (length cs)) (length cs) cs) ps (apart_parts (suc (length cs)) (length cs) cs) e
+
+-- what is filled is as long as the width
+filled_long : (s : CFormatSpec) (units : List ℕ) → width_in s.min_field_width ≤ length (filled s units)
+filled_long s units = omega (arith, between_length (sides s.flags (short_of s (length units))) units, sides_sum s.flags (short_of s (length units)))
+
+pub strings_long : StringsFillTheWidth
+strings_long s units = filled_long s (cut (most_units s.format_type s.precision) units)
+
+pub numbers_long : NumbersFillTheWidth
+numbers_long s z = filled_long s _
