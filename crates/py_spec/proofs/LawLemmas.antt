@@ -27,7 +27,7 @@ more_room (suc k) more n (c ∷ cs) h = ap (λ (j : ℕ). read_parts j n (c ∷ 
   by_turn (Err w) e = refl
 
 -- what is true of the parts that are read is true of the parts of a template
-of_parts : (P : Parts → Type 0) (r : Read Parts) (ps : Parts) → Holds (λ qs x. P qs) r → value_of r ≡ Ok ps → P ps
+pub of_parts : (P : Parts → Type 0) (r : Read Parts) (ps : Parts) → Holds (λ qs x. P qs) r → value_of r ≡ Ok ps → P ps
 of_parts P (Ok q) ps h e = let same : q.0 ≡ ps = cc e in subst P same (h.by q.0 q.1 refl)
 of_parts P (Err w) ps h e = let f : ⊥ = cc e in absurd f
 

@@ -68,7 +68,7 @@ a_type n (c ∷ cs) = by_type (find types c) where
   by_type None = bad
   by_type (Some t) = ok (omega arith)
 
-a_specifier : (n : ℕ) (cs : List ℕ) → Within cs (read_specifier n cs)
+pub a_specifier : (n : ℕ) (cs : List ℕ) → Within cs (read_specifier n cs)
 a_specifier n cs =
     then_holds (a_key n cs) λ key xs p.
     then_holds (a_quantity n (read_flags (flag 0) xs).1) λ width ys q.

@@ -1,3 +1,5 @@
+mod AscendLemmas
+mod BytePartLemmas
 mod FillLemmas
 mod KeyLemmas
 mod LawLemmas

@@ -52,6 +52,7 @@ onto_ascii zero base upper n acc p b a = a
 onto_ascii (suc k) base upper n acc p b a = by_test (n / base == 0) where
   more : all_ascii (digit_glyph upper (n % base) ∷ acc) ≡ true
   more = glyph_ascii upper (n % base) acc (omega (arith, mod-lt n p, b)) a
+
   by_test : (t : Bool) → all_ascii (if t then digit_glyph upper (n % base) ∷ acc else digits_onto k base upper (n / base) (digit_glyph upper (n % base) ∷ acc)) ≡ true
   by_test true = more
   by_test false = onto_ascii k base upper (n / base) (digit_glyph upper (n % base) ∷ acc) p b more

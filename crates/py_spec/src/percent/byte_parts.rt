@@ -91,6 +91,7 @@ impl CFormatBytes {
     }
 
     // The parts as bytes.
+    #[tactic(auto, using(crate::proofs::BytePartLemmas::part_narrow, crate::proofs::BytePartLemmas::part_put,))]
     fn of_parts(alloc: Global, parts: &[(usize, CFormatPart)]) -> PyResult<CFormatBytes>
         requires { spec.are_byte_parts parts.now ≡ true }
         ensures ok { IfOk result (λ made. made ≡ spec.parts_bytes parts.now) }
@@ -112,12 +113,14 @@ impl CFormatBytes {
     /// # Errors
     ///
     /// `PercentParse` or `NotCarried` for the first fault from the left, and `NoMemory`.
+    #[tactic(auto, using(crate::proofs::BytePartLemmas::bytes_fault, crate::proofs::BytePartLemmas::bytes_read, crate::proofs::BytePartLemmas::bytes_narrow,))]
     pub fn parse_from_bytes(alloc: Global, bytes: &[u8]) -> PyResult<CFormatBytes>
         ensures { Meets (spec.byte_parts bytes.now) result }
     {
         let text = text_of_bytes(alloc, bytes)?;
         let read = CFormatString::parse(alloc, &text)?;
-        CFormatBytes::of_parts(alloc, read.parts())
+        let made = CFormatBytes::of_parts(alloc, read.parts())?;
+        Ok(made)
     }
 
     /// How many parts there are.

@@ -9,6 +9,7 @@ use py_base::{PyError, PyResult};
 use std::alloc::Global;
 
 /// Puts a byte at the end, so many times.
+#[tactic(auto, using(crate::proofs::FillLemmas::run_put,))]
 pub(crate) fn put_run(bytes: &mut Vec<u8>, byte: u8, count: usize) -> PyResult<()>
     ensures ok { OnOk result (bytes.new.items ≡ bytes.old.items ++ replicate count byte) }
     ensures err { IsOkUnless result PyError.NoMemory }
@@ -56,6 +57,7 @@ pub(crate) fn zero_fill(flags: CConversionFlags, count: usize) -> usize
 }
 
 /// The bytes between spaces. The room is taken once.
+#[tactic(auto, using(crate::proofs::FillLemmas::between_put,))]
 pub(crate) fn between(alloc: Global, side: (usize, usize), bytes: &[u8]) -> PyResult<Vec<u8>>
     ensures ok { IfOk result (λ made. made.items ≡ spec.between side bytes.now) }
     ensures err { IsOkUnless result PyError.NoMemory }

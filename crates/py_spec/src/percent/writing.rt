@@ -96,6 +96,7 @@ impl CFormatSpec {
     }
 
     // The bytes of a number.
+    #[tactic(auto, using(crate::proofs::WritingLemmas::number_written,))]
     fn number_bytes(
         &self,
         alloc: Global,
@@ -126,6 +127,7 @@ impl CFormatSpec {
     /// A number: sign, prefix, digits, at least as many as the precision, and zeros or spaces up
     /// to the width. A type that is not a number's is written in base ten. (Python Library
     /// Reference, printf-style String Formatting.)
+    #[tactic(auto, using(crate::proofs::WritingLemmas::bytes_ascii,))]
     pub fn format_number(&self, alloc: Global, num: PyInt) -> PyResult<PyStr>
         ensures ok { IfOk result (λ made. made ≡ spec.number_text self.now num) }
         ensures err { IsOkUnless result PyError.NoMemory }
@@ -142,6 +144,7 @@ impl CFormatSpec {
     }
 
     // A text of `count` code points, with spaces up to the width.
+    #[tactic(auto, using(crate::proofs::WritingLemmas::filled_utf8, crate::proofs::WritingLemmas::filled_count, crate::proofs::WritingLemmas::filled_text,))]
     fn filled(&self, alloc: Global, text: &str, count: usize) -> PyResult<PyStr>
         requires { count ≡ length (chars text.now) }
         ensures ok { IfOk result (λ made. made ≡ spec.filled self.now (chars text.now)) }
@@ -153,6 +156,7 @@ impl CFormatSpec {
     }
 
     // The text, cut to the precision, and how many code points it has.
+    #[tactic(auto, using(crate::proofs::WritingLemmas::cut_all,))]
     fn cut_text<'t>(&self, text: &'t PyStr) -> (&'t str, usize)
         ensures text { chars result.0.now
             ≡ spec.cut (spec.most_units self.now.format_type self.now.precision) text.now }
@@ -170,6 +174,7 @@ impl CFormatSpec {
         }
     }
 
+    #[tactic(auto, using(crate::proofs::WritingLemmas::cut_all,))]
     fn cut_bytes<'b>(&self, bytes: &'b [u8]) -> &'b [u8]
         ensures { result.now
             ≡ spec.cut (spec.most_units self.now.format_type self.now.precision) bytes.now }
@@ -207,6 +212,7 @@ impl CFormatSpec {
 
     /// Bytes, cut to the precision and with spaces up to the width, both in bytes. (Python Library
     /// Reference, printf-style Bytes Formatting.)
+    #[tactic(auto, using(crate::proofs::WritingLemmas::filled_bytes,))]
     pub fn format_bytes(&self, alloc: Global, bytes: &[u8]) -> PyResult<PyBytes>
         ensures ok { IfOk result (λ made. made ≡ spec.string_units self.now bytes.now) }
         ensures err { IsOkUnless result PyError.NoMemory }

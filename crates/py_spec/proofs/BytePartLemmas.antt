@@ -1,0 +1,48 @@
+-- The parts of a template of bytes, from those of the text whose code points are the bytes.
+use Rattle.std.proofs.Common.{◌≡◌, ◌∙◌, ◌×◌, ℕ, zero, suc, ◌+◌, ◌&&◌, Bool, true, false, List, [], ◌∷◌, ◌++◌, length, take, sym, ap, refl, arith, append_assoc, append-nil, chars, encode_utf8, nat_lt}
+use Rattle.std.specs.Prelude.{Ok, Err, Some, slice_get, map}
+use Rattle.std.proofs.lemmas.Str.{chars_past_char}
+use Rattle.std.specs.Str.{IsUtf8}
+use Rattle.py_base.specs.declared.error.PyError.{PyError}
+use Rattle.py_spec.specs.declared.percent.parts.CFormatPart.{CFormatPart}
+use Rattle.py_spec.specs.Percent.ByteParts.{all_bytes, are_byte_parts, as_bytes, byte_parts, is_byte_part, part_bytes, parts_bytes}
+use Rattle.py_spec.specs.Percent.Template.{Parts, percent_parts, read_parts}
+use Rattle.py_spec.proofs.LawLemmas.{of_parts}
+use Rattle.py_spec.proofs.NarrowLemmas.{Narrow, all_parts, head_narrow, tail_narrow}
+
+-- the fault of the text is that of the bytes
+pub bytes_fault : (text bytes : List ℕ) (e : PyError) → text ≡ bytes → percent_parts text ≡ Err e → byte_parts bytes ≡ Err e
+bytes_fault text bytes e t f = sym (ap byte_parts t) ∙ ap as_bytes f
+
+-- and its parts, as bytes, are theirs
+pub bytes_read : (text bytes : List ℕ) (ps made : Parts) → text ≡ bytes → Ok ps ≡ percent_parts text → made ≡ parts_bytes ps → Ok made ≡ byte_parts bytes
+bytes_read text bytes ps made t e m = ap Ok m ∙ ap as_bytes e ∙ ap byte_parts t
+
+pub bytes_narrow : (text : List ℕ) (ps : Parts) → Narrow text → Ok ps ≡ percent_parts text → are_byte_parts ps ≡ true
+bytes_narrow text ps n e = of_parts (λ qs. are_byte_parts qs ≡ true) (read_parts (suc (length text)) (length text) text) ps (all_parts (suc (length text)) (length text) text n) (sym e)
+
+-- the part at a place
+both_true : (a b : Bool) → (a && b) ≡ true → (a ≡ true) × (b ≡ true)
+both_true true true h = (refl, refl)
+both_true true false h = let f : ⊥ = cc h in absurd f
+both_true false b h = let f : ⊥ = cc h in absurd f
+
+pub part_narrow : (ps : Parts) (i : ℕ) (p : ℕ × CFormatPart) → slice_get ps i ≡ Some p → are_byte_parts ps ≡ true → is_byte_part p.1 ≡ true
+part_narrow [] i p h n = absurd (cc)
+part_narrow (q ∷ ps) zero p h n = let same : q ≡ p = cc in ap (λ (r : ℕ × CFormatPart). is_byte_part r.1) (sym same) ∙ (both_true (is_byte_part q.1) (are_byte_parts ps) n).0
+part_narrow (q ∷ ps) (suc i) p h n = part_narrow ps i p h (both_true (is_byte_part q.1) (are_byte_parts ps) n).1
+
+-- one part more
+parts_joined : (ps qs : Parts) → parts_bytes (ps ++ qs) ≡ parts_bytes ps ++ parts_bytes qs
+parts_joined [] qs = refl
+parts_joined (p ∷ ps) qs = ap (λ (l : Parts). (p.0, part_bytes p.1) ∷ l) (parts_joined ps qs)
+
+pub part_put : (ps old new : Parts) (i : ℕ) (p : ℕ × CFormatPart) → take (i + 1) ps ≡ take i ps ++ p ∷ [] → old ≡ parts_bytes (take i ps) → new ≡ old ++ (p.0, part_bytes p.1) ∷ [] → new ≡ parts_bytes (take (i + 1) ps)
+part_put ps old new i p t o n =
+    n ∙ ap (λ (l : Parts). l ++ (p.0, part_bytes p.1) ∷ []) o ∙ sym (ap parts_bytes t ∙ parts_joined (take i ps) (p ∷ []))
+
+-- a code point of a text of bytes
+pub char_narrow : (bs rest : List ℕ) (c : ℕ) → IsUtf8 bs → bs ≡ encode_utf8 c ++ rest → Narrow (chars bs) → (nat_lt c 256 ≡ true) × Narrow (chars rest)
+char_narrow bs rest c u e n =
+    let whole : Narrow (c ∷ chars rest) = sym (ap all_bytes (chars_past_char bs rest c u e)) ∙ n in
+    (head_narrow c (chars rest) whole, tail_narrow c (chars rest) whole)
