@@ -1,14 +1,15 @@
 -- The parts of a template of bytes, from those of the text whose code points are the bytes.
-use Rattle.std.proofs.Common.{◌≡◌, ◌∙◌, ◌×◌, ℕ, zero, suc, ◌+◌, ◌&&◌, Bool, true, false, List, [], ◌∷◌, ◌++◌, length, take, sym, ap, refl, arith, append_assoc, append-nil, chars, encode_utf8, nat_lt}
+use Rattle.std.proofs.Common.{◌≡◌, ◌∙◌, ◌×◌, ℕ, zero, suc, ◌+◌, ◌%◌, ◌<◌, ◌&&◌, Bool, true, false, List, [], ◌∷◌, ◌++◌, length, take, sym, ap, refl, arith, append_assoc, append-nil, chars, encode_utf8, nat_lt}
 use Rattle.std.specs.Prelude.{Ok, Err, Some, slice_get, map}
 use Rattle.std.proofs.lemmas.Str.{chars_past_char}
 use Rattle.std.specs.Str.{IsUtf8}
+use Rattle.std.proofs.lemmas.Bool.Decides.{nat_tests}
 use Rattle.py_base.specs.declared.error.PyError.{PyError}
 use Rattle.py_spec.specs.declared.percent.parts.CFormatPart.{CFormatPart}
 use Rattle.py_spec.specs.Percent.ByteParts.{all_bytes, are_byte_parts, as_bytes, byte_parts, is_byte_part, part_bytes, parts_bytes}
 use Rattle.py_spec.specs.Percent.Template.{Parts, percent_parts, read_parts}
 use Rattle.py_spec.proofs.LawLemmas.{of_parts}
-use Rattle.py_spec.proofs.NarrowLemmas.{Narrow, all_parts, head_narrow, tail_narrow}
+use Rattle.py_spec.proofs.NarrowLemmas.{Narrow, all_parts, cons_narrow, head_narrow, tail_narrow}
 
 -- the fault of the text is that of the bytes
 pub bytes_fault : (text bytes : List ℕ) (e : PyError) → text ≡ bytes → percent_parts text ≡ Err e → byte_parts bytes ≡ Err e
@@ -46,3 +47,14 @@ pub char_narrow : (bs rest : List ℕ) (c : ℕ) → IsUtf8 bs → bs ≡ encode
 char_narrow bs rest c u e n =
     let whole : Narrow (c ∷ chars rest) = sym (ap all_bytes (chars_past_char bs rest c u e)) ∙ n in
     (head_narrow c (chars rest) whole, tail_narrow c (chars rest) whole)
+
+-- a byte is its code point
+pub byte_below : (c : ℕ) → c < 256 → nat_lt c 256 ≡ true
+byte_below c h = grind (arith, nat_tests)
+
+pub byte_kept : (c : ℕ) → nat_lt c 256 ≡ true → c % 256 ≡ c
+byte_kept c h = let small : c < 256 = grind (arith, nat_tests) in omega (arith, small)
+
+pub bytes_joined : (bs : List ℕ) (c : ℕ) → Narrow bs → nat_lt c 256 ≡ true → Narrow (bs ++ c ∷ [])
+bytes_joined [] c n h = cons_narrow c [] h refl
+bytes_joined (b ∷ bs) c n h = cons_narrow b (bs ++ c ∷ []) (head_narrow b bs n) (bytes_joined bs c (tail_narrow b bs n) h)

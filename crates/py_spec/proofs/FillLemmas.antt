@@ -1,5 +1,5 @@
 -- Runs of spaces and zeros, and units between spaces.
-use Rattle.std.proofs.Common.{◌≡◌, ◌∙◌, ◌×◌, ℕ, zero, suc, ◌+◌, ◌-◌, ◌≤◌, ◌<◌, Bool, true, false, if◌then◌else◌, List, [], ◌∷◌, ◌++◌, length, take, sym, ap, subst, refl, arith, append_assoc, length-append, take_all, chars}
+use Rattle.std.proofs.Common.{◌≡◌, ◌∙◌, ◌×◌, ℕ, zero, suc, ◌+◌, ◌-◌, ◌≤◌, ◌<◌, ◌&&◌, nat_lt, Bool, true, false, if◌then◌else◌, List, [], ◌∷◌, ◌++◌, length, take, sym, ap, subst, refl, arith, append_assoc, length-append, take_all, chars}
 use Rattle.std.specs.Prelude.{replicate}
 use Rattle.std.specs.Str.{IsUtf8}
 use Rattle.std.proofs.lemmas.List.{length-replicate, replicate-append-replicate}
@@ -27,9 +27,9 @@ pub between_put : (one two three bytes : List ℕ) (before after : ℕ) → one 
 between_put one two three bytes before after o w h =
     h ∙ ap (λ (xs : List ℕ). xs ++ spaces after) (w ∙ ap (λ (xs : List ℕ). xs ++ bytes) o) ∙ append_assoc (spaces before) bytes (spaces after)
 
-run_ascii : (n c : ℕ) → all_ascii (c ∷ []) ≡ true → all_ascii (replicate n c) ≡ true
+run_ascii : (n c : ℕ) → nat_lt c 128 ≡ true → all_ascii (replicate n c) ≡ true
 run_ascii zero c h = refl
-run_ascii (suc n) c h = grind (h, run_ascii n c h)
+run_ascii (suc n) c h = ap (λ (b : Bool). b && all_ascii (replicate n c)) h ∙ run_ascii n c h
 
 pub spaces_ascii : (n : ℕ) → all_ascii (spaces n) ≡ true
 spaces_ascii n = run_ascii n 32 refl

@@ -6,7 +6,7 @@ use Rattle.py_base.specs.Reading.{◌and_then◌}
 use Rattle.py_base.specs.declared.error.PyError.{PyError}
 use Rattle.py_base.proofs.HoldsLemmas.{Holds, ok, bad, then_holds}
 use Rattle.py_spec.specs.declared.percent.parts.CFormatSpec.{CFormatSpec}
-use Rattle.py_spec.specs.Laws.{FullLiterals, LiteralsApart, MoreRoomChangesNothing, NumbersFillTheWidth, StringsFillTheWidth, all_full, literals_apart}
+use Rattle.py_spec.specs.Laws.{FullLiterals, LiteralsApart, MoreRoomChangesNothing, NumbersFillTheWidth, StringsFillTheWidth, all_full, is_full, literals_apart}
 use Rattle.py_spec.specs.Percent.Literals.{literal}
 use Rattle.py_spec.specs.Percent.Reading.{Read, place_of, read_specifier}
 use Rattle.py_spec.specs.Percent.Template.{Turn, Parts, specifier_after, read_turn, turn_parts, read_parts, value_of, percent_parts}
@@ -32,14 +32,16 @@ of_parts P (Ok q) ps h e = let same : q.0 ≡ ps = cc e in subst P same (h.by q.
 of_parts P (Err w) ps h e = let f : ⊥ = cc e in absurd f
 
 -- no literal is empty
-both : (a b : Bool) → a ≡ true → b ≡ true → (a && b) ≡ true
-both true true h k = refl
-both true false h k = k
-both false b h k = h
+both : (a b : Bool) → (a && b) ≡ true → (a ≡ true) × (b ≡ true)
+both true true h = (refl, refl)
+both true false h = let f : ⊥ = cc h in absurd f
+both false b h = let f : ⊥ = cc h in absurd f
 
 full_joined : (ps qs : Parts) → all_full ps ≡ true → all_full qs ≡ true → all_full (ps ++ qs) ≡ true
 full_joined [] qs h k = k
-full_joined (p ∷ ps) qs h k = grind (h, k, full_joined ps qs)
+full_joined (p ∷ ps) qs h k =
+    let f = both (is_full p.1) (all_full ps) h in
+    ap (λ (b : Bool). b && all_full (ps ++ qs)) f.0 ∙ full_joined ps qs f.1 k
 
 full_turn : (place : ℕ) (text : List ℕ) (read : Option (ℕ × CFormatSpec)) → all_full (turn_parts place (text, read)) ≡ true
 full_turn place [] None = refl

@@ -7,7 +7,7 @@ use Rattle.py_base.specs.declared.error.PyError.{PyError}
 use Rattle.py_spec.specs.declared.percent.parts.CFormatSpec.{CFormatSpec}
 use Rattle.py_spec.specs.declared.percent.parts.CFormatType.{CFormatType}
 use Rattle.py_spec.specs.declared.percent.parts.CConversionFlags.{CConversionFlags}
-use Rattle.py_spec.specs.Percent.ByteParts.{all_bytes, is_byte_key, are_byte_parts}
+use Rattle.py_spec.specs.Percent.ByteParts.{all_bytes, is_byte_key, is_byte_part, are_byte_parts}
 use Rattle.py_spec.specs.Percent.Flags.{flag, flags_by_sign, flags_on, read_flags, with_flags}
 use Rattle.py_spec.specs.Percent.Literals.{literal, put_first}
 use Rattle.py_spec.specs.Percent.Reading.{Read, open_after, key_on, key_in, read_key, is_digit, read_digits, most, read_amount, read_quantity, read_precision, skip_length, types, typed, read_type, read_specifier, place_of}
@@ -143,9 +143,11 @@ a_turn n cs w = after_literal n (literal cs).0 (literal cs).1 (literal_narrow cs
 
 joined_narrow : (ps qs : Parts) → are_byte_parts ps ≡ true → are_byte_parts qs ≡ true → are_byte_parts (ps ++ qs) ≡ true
 joined_narrow [] qs h k = k
-joined_narrow (p ∷ ps) qs h k = grind (h, k, joined_narrow ps qs)
+joined_narrow (p ∷ ps) qs h k =
+    let f = first_narrow (is_byte_part p.1) (are_byte_parts ps) h in
+    ap (λ (b : Bool). b && are_byte_parts (ps ++ qs)) f.0 ∙ joined_narrow ps qs f.1 k
 
-all_parts : (k n : ℕ) (cs : List ℕ) → Narrow cs → Holds (λ ps x. are_byte_parts ps ≡ true) (read_parts k n cs)
+pub all_parts : (k n : ℕ) (cs : List ℕ) → Narrow cs → Holds (λ ps x. are_byte_parts ps ≡ true) (read_parts k n cs)
 all_parts zero n cs w = ok refl
 all_parts (suc k) n [] w = ok refl
 all_parts (suc k) n (c ∷ cs) w =

@@ -1,6 +1,6 @@
 -- The digits of a number, written from the last to the first.
 use Rattle.std.proofs.Common.{◌≡◌, ◌∙◌, ◌==◌, ℕ, zero, suc, ◌+◌, ◌-◌, ◌*◌, ◌/◌, ◌%◌, ◌^◌, ◌≤◌, ◌<◌, Bool, true, false, cond, if◌then◌else◌, nat_lt, ◌&&◌, List, [], ◌∷◌, ◌++◌, length, drop, sym, ap, refl, arith}
-use Rattle.std.proofs.Math.Nat.{mod-lt, mod-eq_of_lt, div-eq_of_lt, mul-le-mul_left, pow-suc, pow-zero}
+use Rattle.std.proofs.Math.Nat.{mod-lt, div-add-mod', mod-eq_of_lt, div-eq_of_lt, mul-le-mul_left, pow-suc, pow-zero}
 use Rattle.std.proofs.lemmas.Nat.{div_below}
 use Rattle.std.proofs.lemmas.List.{drop-set}
 use Rattle.std.specs.Prelude.{set}
@@ -81,10 +81,16 @@ some_room (suc (suc k)) base left b l h = omega arith
 pub wide_room : (n : ℕ) → n < 2 ^ 128 → n < 8 ^ 64
 wide_room n h = omega (arith, h)
 
+quotient_there : (left base : ℕ) → 0 < base → base ≤ left → 0 < left / base
+quotient_there left base p h = by_quotient (left / base) refl where
+  by_quotient : (q : ℕ) → left / base ≡ q → 0 < left / base
+  by_quotient zero e = absurd (omega (arith, h, mod-lt left p, div-add-mod' left base, ap (λ (q : ℕ). q * base) e))
+  by_quotient (suc q) e = omega (arith, e)
+
 -- a turn: one digit before those that are written
-pub digit_put : (at base left g : ℕ) (upper : Bool) (whole room new : List ℕ) → 0 < at → at ≤ length room → 0 < left / base → g ≡ digit_glyph upper (left % base) → new ≡ set room (at - 1) g → whole ≡ digits_onto at base upper left (drop at room) → whole ≡ digits_onto (at - 1) base upper (left / base) (drop (at - 1) new)
-digit_put at base left g upper whole room new p h d is n w =
-    w ∙ onto_more at base upper left (drop at room) p d
+pub digit_put : (at base left g : ℕ) (upper : Bool) (whole room new : List ℕ) → 0 < at → at ≤ length room → 0 < base → base ≤ left → g ≡ digit_glyph upper (left % base) → new ≡ set room (at - 1) g → whole ≡ digits_onto at base upper left (drop at room) → whole ≡ digits_onto (at - 1) base upper (left / base) (drop (at - 1) new)
+digit_put at base left g upper whole room new p h b l is n w =
+    w ∙ onto_more at base upper left (drop at room) p (quotient_there left base b l)
     ∙ ap (digits_onto (at - 1) base upper (left / base)) (sym (ap (drop (at - 1)) n ∙ drop-set room (at - 1) g (omega (arith, p, h)) ∙ ap (λ (i : ℕ). g ∷ drop i room) {x = at - 1 + 1} {y = at} (omega (arith, p)) ∙ ap (λ (c : ℕ). c ∷ drop at room) is))
 
 -- the last turn
