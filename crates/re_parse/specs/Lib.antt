@@ -1,5 +1,10 @@
 pub mod Amounts
+pub mod Answers
 pub mod Digits
+pub mod EndedGroups
 pub mod FirstPass
+pub mod GroupNames
 pub mod Laws
+pub mod ParserView
+pub mod PassView
 pub mod TokenView
