@@ -4,8 +4,6 @@
 #[cfg(test)]
 mod faults;
 #[cfg(test)]
-mod long;
-#[cfg(test)]
 mod tokens;
 #[cfg(test)]
 mod trees;
