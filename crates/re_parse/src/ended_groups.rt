@@ -33,7 +33,7 @@ fn extended(ended: Vec<bool>, count: usize) -> Result<Vec<bool>, AllocError>
     ensures long { IfOk result (λ longer. count ≤ length longer.items) }
 {
     let mut longer = ended;
-    while longer.len() < count {
+    'places: while longer.len() < count {
         longer.push(false)?;
     }
     Ok(longer)

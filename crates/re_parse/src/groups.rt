@@ -43,6 +43,18 @@ fn is_past(count: usize, number: &Number) -> bool
     }
 }
 
+// The first fault, with those of the conditionals whose number is 0 or past the groups.
+fn note_each(count: usize, conditionals: &[Conditional], first: Option<Fault>) -> Option<Fault>
+    ensures { result ≡ note first (conditional_faults count (conditionals_in conditionals.now)) }
+{
+    let mut found = first;
+    for conditional in conditionals {
+        let wrong = is_past(count, &conditional.number);
+        found = note(found, wrong, conditional.begin, FaultKind::BadReference);
+    }
+    found
+}
+
 impl Groups {
     // None.
     pub(crate) fn new(alloc: Global) -> Groups
@@ -126,16 +138,11 @@ impl Groups {
         }
     }
 
-    // The first fault, with those of the conditionals whose number is 0 or past the groups.
+    // The first fault, with those of the conditionals by number.
     pub(crate) fn note_conditionals(&self, first: Option<Fault>) -> Option<Fault>
         ensures { result ≡ note first
             (conditional_faults self.now.count (conditionals_in self.now.conditionals.items)) }
     {
-        let mut found = first;
-        for conditional in &self.conditionals {
-            let wrong = is_past(self.count, &conditional.number);
-            found = note(found, wrong, conditional.begin, FaultKind::BadReference);
-        }
-        found
+        note_each(self.count, &self.conditionals, first)
     }
 }
