@@ -1,4 +1,5 @@
 pub mod Amounts
+pub mod AnswerRows
 pub mod Answers
 pub mod Digits
 pub mod EndedGroups

@@ -128,14 +128,15 @@ impl Parser {
         let Some(frame) = outer.pop() else {
             return Ok(None);
         };
-        let closed = part(alloc, frame.opening, frame.begin, frame.number, self.inside)?;
-        let Some(closed) = closed else {
+        let made = part(alloc, frame.opening, frame.begin, frame.number, self.inside)?;
+        let Some(closed) = made else {
             return Ok(None);
         };
+        let inside = frame.around.add(closed)?;
         Ok(Some(Parser {
             groups: self.groups,
             outer,
-            inside: frame.around.add(closed)?,
+            inside,
         }))
     }
 

@@ -128,8 +128,9 @@ impl Pass {
             number,
             around: self.body,
         })?;
+        let groups = self.groups.open(alloc, begin, number, opening)?;
         Ok(Some(Pass {
-            groups: self.groups.open(alloc, begin, number, opening)?,
+            groups,
             ended: self.ended,
             outer,
             body: Body::new(),
@@ -146,16 +147,18 @@ impl Pass {
         let Some(opened) = outer.pop() else {
             return Ok(None);
         };
-        let ended = end(alloc, opened.construct, opened.begin, self.body, self.first)?;
-        let Some(shape) = ended.shape else {
+        let closed = end(alloc, opened.construct, opened.begin, self.body, self.first)?;
+        let Some(shape) = closed.shape else {
             return Ok(None);
         };
+        let ended = end_group(self.ended, opened.construct, opened.number)?;
+        let body = opened.around.add(alloc, shape)?;
         Ok(Some(Pass {
             groups: self.groups,
-            ended: end_group(self.ended, opened.construct, opened.number)?,
+            ended,
             outer,
-            body: opened.around.add(alloc, shape)?,
-            first: ended.first,
+            body,
+            first: closed.first,
         }))
     }
 
