@@ -15,7 +15,8 @@ use Rattle.re_parse.specs.declared.construct.Construct.{Construct}
 use Rattle.re_parse.specs.declared.construct.Opened.{Opened}
 use Rattle.re_parse.specs.declared.groups.Conditional.{Conditional}
 use Rattle.re_parse.specs.FirstPass.{note, no_body, construct_of, conditionals_at, numbers_at, where_of, add_shape, body_width, closed_shape, close_faults, close_with, close_pass, open_pass, verdict_at, Pass, Verdict}
-use Rattle.re_parse.specs.PassView.{conditionals_in, onto}
+use Rattle.re_parse.specs.Groups.{conditionals_in}
+use Rattle.re_parse.specs.PassView.{onto}
 use Rattle.re_parse.proofs.FirstFaultLemmas.{nothing_noted, note_more}
 
 pub same_identifiers : (name : List ℕ) → isidentifier name ≡ is_identifier name

@@ -5,6 +5,7 @@ pub mod Digits
 pub mod EndedGroups
 pub mod FirstPass
 pub mod GroupNames
+pub mod Groups
 pub mod Laws
 pub mod ParserView
 pub mod PassView

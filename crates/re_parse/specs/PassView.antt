@@ -1,14 +1,9 @@
 -- The first pass in memory.
-use Rattle.std.specs.Prelude.{ℕ, List, [], ◌∷◌}
+use Rattle.std.specs.Prelude.{List, [], ◌∷◌}
 use Rattle.re_parse.specs.declared.construct.Opened.{Opened}
-use Rattle.re_parse.specs.declared.groups.Conditional.{Conditional}
 use Rattle.re_parse.specs.declared.pass.Pass.{Pass as PassInMemory}
 use Rattle.re_parse.specs.FirstPass.{Pass}
-
--- the conditionals by number: their places and numbers
-abbrev pub conditionals_in : List Conditional → List (ℕ × ℕ)
-conditionals_in [] = []
-conditionals_in (x ∷ xs) = (x.begin, x.number) ∷ conditionals_in xs
+use Rattle.re_parse.specs.Groups.{conditionals_in}
 
 -- the innermost opening is the last in memory, and the first of the pass
 abbrev pub onto : List Opened → List Opened → List Opened

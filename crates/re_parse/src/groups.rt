@@ -6,7 +6,7 @@ ghost use Rattle.re_tree.specs.Faults.{names_at, conditional_faults};
 ghost use Rattle.re_tree.specs.Machine.{groups_begun};
 ghost use Rattle.re_tree.specs.PlainText.{name_of};
 ghost use Rattle.re_parse.specs.FirstPass.{note, conditionals_at};
-ghost use Rattle.re_parse.specs.PassView.{conditionals_in};
+ghost use Rattle.re_parse.specs.Groups.{conditionals_in};
 ghost use Rattle.re_parse.specs.TokenView.{opening_of};
 
 use crate::first_fault::note;

@@ -1,6 +1,7 @@
 use Rattle.std.proofs.Common.{◌≡◌, refl, ap}
 use Rattle.std.specs.Prelude.{Some}
-use Rattle.re_parse.specs.PassView.{pass_in, conditionals_in}
+use Rattle.re_parse.specs.Groups.{conditionals_in}
+use Rattle.re_parse.specs.PassView.{pass_in}
 use Rattle.re_parse.specs.TokenView.{opening_of}
 use Rattle.re_parse.proofs.PassCodeLemmas.{opens_as}
 use Rattle.re_parse.proofs.pass.Pass.open.Goals as goal
