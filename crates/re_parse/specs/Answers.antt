@@ -32,7 +32,9 @@ told (Some (Some f)) = Err (error_of f)
 -- what is answered of a pattern, without its tree: that it is too long, or not in the grammar, or
 -- its first fault
 abbrev pub answer_of : Flags → List ℕ → Result (Unit {0}) TextError
-answer_of flags text = if nat_lt MAX_CHARACTERS (length text) then Err TooLong else told (verdict_of (read_tree flags text))
+answer_of flags text =
+    if nat_lt MAX_CHARACTERS (length text) then Err TooLong
+    else told (verdict_of (read_tree flags text))
 
 abbrev pub no_memory : TextError → Bool
 no_memory NoMemory = true

@@ -32,7 +32,8 @@ pub(crate) struct Branches {
 // Parts with one more.
 #[tactic(auto, using(crate::proofs::BranchLemmas::texts_push))]
 fn push(parts: Vec<TextTree>, part: TextTree) -> Result<Vec<TextTree>, AllocError>
-    ensures { IfOk result (λ more. texts_of more.items ≡ snoc (texts_of parts.items) (text_of part)) }
+    ensures { IfOk result (λ more.
+        texts_of more.items ≡ snoc (texts_of parts.items) (text_of part)) }
 {
     let mut more = parts;
     more.push(part)?;

@@ -12,7 +12,7 @@ use thiserror::Error;
 pub const MAX_CHARACTERS: usize = 16_777_216;
 
 /// Why a pattern has no tree that is answered. A place is that of the parenthesis, backslash or
-/// count that begins what is wrong, in code points. Of what is wrong the one with the least place is
+/// count that begins what is wrong, in code points. Of what is wrong that with the least place is
 /// answered, and of two at one place the one that is first here.
 #[derive(Clone, Copy, PartialEq, Eq, Debug, Error)]
 pub enum TextError {

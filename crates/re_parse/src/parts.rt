@@ -106,7 +106,8 @@ fn conditional(
     inside: Branches,
 ) -> Result<Option<TextTree>, AllocError>
     ensures { IfOk result (λ made. option_map text_of made ≡
-        part_of (conditional_opening (group_named id)) at number (ended_of inside) (last_of inside)) }
+        part_of (conditional_opening (group_named id)) at number
+        (ended_of inside) (last_of inside)) }
 {
     inside.into_conditional(alloc, at, group_id(id)?)
 }

@@ -1,4 +1,4 @@
-//! The first pass over a pattern, a token at a time. It makes no tree, and no function calls itself.
+//! The first pass over a pattern, a token at a time. It makes no tree.
 
 ghost use Rattle.std.specs.Prelude.{◌≡◌, true, [], Some, IfOk};
 ghost use Rattle.std.specs.Option.{option_map};
