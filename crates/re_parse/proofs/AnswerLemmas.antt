@@ -1,7 +1,8 @@
 -- What is answered of a pattern, by what the first pass finds in it.
-use Rattle.std.proofs.Common.{◌≡◌, sym, ◌∙◌, ap, ℕ, ◌≤◌, List, length}
+use Rattle.std.proofs.Common.{◌≡◌, sym, ◌∙◌, ap, ℕ, ◌≤◌, Bool, true, false, List, length}
 use Rattle.std.proofs.lemmas.Bool.{le-ltb}
-use Rattle.std.specs.Prelude.{Result, Ok, Err, cond}
+use Rattle.std.specs.Prelude.{Option, None, Result, Ok, Err, cond, nat_lt}
+use Rattle.re_tree.specs.PlainText.{PlainText}
 use Rattle.py_base.specs.Reading.{UnlessNoMemory}
 use Rattle.re_tree.specs.Grammar.{Flags}
 use Rattle.re_tree.specs.Machine.{read_tree}
@@ -28,3 +29,11 @@ pub answers_as : (flags : Flags) (text : List ℕ) (v : Verdict) → length text
 answers_as flags text v e h =
     ap told (h ∙ judges text flags)
     ∙ sym (ap (λ b. cond b (Err TooLong) (told (verdict_of (read_tree flags text)))) (le-ltb 16777216 (length text) e))
+
+-- where a pattern is answered it has a tree
+no_tree_by : (b : Bool) (o : Option PlainText) → ◌≡◌ {A = Result (Unit {0}) TextError} (Ok tt) (cond b (Err TooLong) (told (verdict_of o))) → o ≡ None → ⊥
+no_tree_by true o e n = cc e
+no_tree_by false o e n = let f : ◌≡◌ {A = Result (Unit {0}) TextError} (Ok tt) (Err NotInGrammar) = e ∙ ap (λ z. told (verdict_of z)) n in cc f
+
+pub answered_has_a_tree : (flags : Flags) (text : List ℕ) → Ok tt ≡ answer_of flags text → read_tree flags text ≡ None → ⊥
+answered_has_a_tree flags text e n = no_tree_by (nat_lt 16777216 (length text)) (read_tree flags text) e n

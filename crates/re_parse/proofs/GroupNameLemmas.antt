@@ -7,6 +7,8 @@ use Rattle.std.specs.Map.{lookup}
 use Rattle.std.proofs.lemmas.Bool.Decides.{same_from_decides, Decides-like}
 use Rattle.std.proofs.lemmas.Slice.Eq.{bytes_eq-Decides}
 use Rattle.std.proofs.lemmas.Str.{IsUtf8-string_bytes, encodes-chars}
+use Rattle.indexmap.specs.IndexMap.{IndexMap, insert_entry}
+use Rattle.indexmap.proofs.CallerLemmas.{insert_entry-new}
 use Rattle.re_tree.specs.PlainText.{Names, find_name}
 use Rattle.re_tree.specs.Faults.{has_name}
 use Rattle.re_parse.specs.declared.group_names.Named.{Named}
@@ -80,3 +82,13 @@ found_under {Z = Z} text (e ∷ es) u =
     let t : bytes_eq text (string_bytes e.0) ≡ pointwise nat_eq (chars (string_bytes e.0)) (chars text) = same_turned text (string_bytes e.0) u (IsUtf8-string_bytes e.0) in
     let i = found_under text es u in
     λ j. cond (t j) (Some e.1) (i j)
+
+-- a name that no entry has is put last
+none_found : {Z : Type 0} (es : List (String Z × ℕ)) (key : String Z) (name : List ℕ) → chars (string_bytes key) ≡ name → number_under es name ≡ None → lookup (λ k. bytes_eq (string_bytes key) (string_bytes k)) es ≡ None
+none_found es key name e n = found_under (string_bytes key) es (IsUtf8-string_bytes key) ∙ ap (number_under es) e ∙ n
+
+pub put_last : {Z S : Type 0} (m : IndexMap (String Z) ℕ S) (key : String Z) (name : List ℕ) (number : ℕ) (longer : List (String Z × ℕ)) → chars (string_bytes key) ≡ name → number_under m.entries name ≡ None
+    → longer ≡ insert_entry (λ a b. bytes_eq (string_bytes a) (string_bytes b)) m.entries key number → HasAlso name number m.entries longer
+put_last m key name number longer e n i = λ text.
+    ap (λ es. number_under es text) (i ∙ insert_entry-new (λ a b. bytes_eq (string_bytes a) (string_bytes b)) m key number (none_found m.entries key name e n))
+    ∙ entry_pushed m.entries key number text ∙ ap (λ k. number_or (number_under m.entries text) k number text) e

@@ -28,6 +28,7 @@ impl Model for EndedGroups {
 }
 
 // With so many places at least; those that are new are false.
+#[tactic(auto, using(crate::proofs::EndedGroupLemmas::same_at_first, crate::proofs::EndedGroupLemmas::same_pushed))]
 fn extended(ended: Vec<bool>, count: usize) -> Result<Vec<bool>, AllocError>
     ensures same { IfOk result (λ longer. SayTheSame ended.items longer.items) }
     ensures long { IfOk result (λ longer. count ≤ length longer.items) }
@@ -40,6 +41,7 @@ fn extended(ended: Vec<bool>, count: usize) -> Result<Vec<bool>, AllocError>
 }
 
 // With one number more.
+#[tactic(auto, using(crate::proofs::EndedGroupLemmas::also_set))]
 fn with_number(ended: Vec<bool>, number: usize) -> Result<Vec<bool>, AllocError>
     ensures { IfOk result (λ longer. SayAlso number ended.items longer.items) }
 {
@@ -68,10 +70,8 @@ impl EndedGroups {
     {
         let mut order = self.order;
         order.push(number)?;
-        Ok(EndedGroups {
-            order,
-            ended: with_number(self.ended, number)?,
-        })
+        let ended = with_number(self.ended, number)?;
+        Ok(EndedGroups { order, ended })
     }
 
     // Whether the group of this number has ended.

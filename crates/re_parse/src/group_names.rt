@@ -96,6 +96,7 @@ impl GroupNames {
     }
 
     // With one more.
+    #[tactic(auto, using(crate::proofs::GroupNameLemmas::names_push))]
     pub(crate) fn push(
         self,
         alloc: Global,

@@ -46,7 +46,7 @@ fn parse(alloc: Global, text: &[char], flags: TextFlags) -> Result<TextTree, Tex
         Err(error) => Err(error),
         Ok(()) => match read(alloc, flags, text)? {
             Some(tree) => Ok(tree),
-            None => Err(TextError::NoMemory),
+            None => unreachable!(),
         },
     }
 }
