@@ -53,22 +53,20 @@ entry_pushed (e ∷ es) key number text =
     (entry_pushed es key number text)
 
 -- a name that is there already changes no number
-no_other : (b : Bool) (names : Names) (name text : List ℕ) (m number : ℕ) → number_in names name ≡ Some m → number_in names text ≡ None → (b ≡ true → name ≡ text) → cond b (Some number) None ≡ None
-no_other false names name text m number e n h = refl
-no_other true names name text m number e n h = let f : Some m ≡ None = sym e ∙ ap (number_in names) (h refl) ∙ n in let g : ⊥ = cc f in absurd g
+no_other : (b : Bool) (f : List ℕ → Option ℕ) (name text : List ℕ) (m number : ℕ) → f name ≡ Some m → f text ≡ None → (b ≡ true → name ≡ text) → cond b (Some number) None ≡ None
+no_other false f name text m number e n h = refl
+no_other true f name text m number e n h = let g : Some m ≡ None = sym e ∙ ap f (h refl) ∙ n in let x : ⊥ = cc g in absurd x
 
-stays_by : (o : Option ℕ) (names : Names) (name text : List ℕ) (m number : ℕ) → number_in names name ≡ Some m → number_in names text ≡ o → number_or o name number text ≡ o
-stays_by (Some n) names name text m number e f = refl
-stays_by None names name text m number e f = no_other (pointwise nat_eq name text) names name text m number e f (bytes_decides name text).0
+stays_by : (o : Option ℕ) (f : List ℕ → Option ℕ) (name text : List ℕ) (m number : ℕ) → f name ≡ Some m → f text ≡ o → number_or o name number text ≡ o
+stays_by (Some n) f name text m number e h = refl
+stays_by None f name text m number e h = no_other (pointwise nat_eq name text) f name text m number e h (bytes_decides name text).0
 
-known_stays : (names : Names) (name text : List ℕ) (m number : ℕ) → number_in names name ≡ Some m → number_or (number_in names text) name number text ≡ number_in names text
-known_stays names name text m number e = stays_by (number_in names text) names name text m number e refl
+pub known_also : {Z : Type 0} (es : List (String Z × ℕ)) (name : List ℕ) (m number : ℕ) → number_under es name ≡ Some m → HasAlso name number es es
+known_also es name m number e = λ text. sym (stays_by (number_under es text) (number_under es) name text m number e refl)
 
-pub pushed_known : {Z : Type 0} (es : List (String Z × ℕ)) (names : Names) (name : List ℕ) (m number : ℕ) → AreFirstNumbers es names → number_in names name ≡ Some m → AreFirstNumbers es (names ++ (name, number) ∷ [])
-pushed_known es names name m number h e = λ text. h text ∙ sym (number_pushed names name number text ∙ known_stays names name text m number e)
-
-pub pushed_new : {Z : Type 0} (es longer : List (String Z × ℕ)) (names : Names) (name : List ℕ) (number : ℕ) → AreFirstNumbers es names → HasAlso name number es longer → AreFirstNumbers longer (names ++ (name, number) ∷ [])
-pushed_new es longer names name number h k = λ text. k text ∙ ap (λ o. number_or o name number text) (h text) ∙ sym (number_pushed names name number text)
+-- the entries have the first number of each name still
+pub pushed_first : {Z : Type 0} (es longer : List (String Z × ℕ)) (names : Names) (name : List ℕ) (number : ℕ) → AreFirstNumbers es names → HasAlso name number es longer → AreFirstNumbers longer (names ++ (name, number) ∷ [])
+pushed_first es longer names name number h k = λ text. k text ∙ ap (λ o. number_or o name number text) (h text) ∙ sym (number_pushed names name number text)
 
 -- a look-up by bytes
 same_turned : (a b : List ℕ) → IsUtf8 a → IsUtf8 b → bytes_eq a b ≡ pointwise nat_eq (chars b) (chars a)

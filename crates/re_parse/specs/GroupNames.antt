@@ -23,12 +23,12 @@ number_under (e ∷ es) name =
 abbrev pub AreFirstNumbers : {Z : Type 0} → List (String Z × ℕ) → Names → Type 0
 AreFirstNumbers es names = (name : List ℕ) → number_under es name ≡ number_in names name
 
--- this number, or the one of a name more
+-- this number, or else that of one name more
 abbrev pub number_or : Option ℕ → List ℕ → ℕ → List ℕ → Option ℕ
 number_or (Some n) name number text = Some n
 number_or None name number text = if pointwise nat_eq name text then Some number else None
 
--- the entries have one name more
+-- the entries have also this number for this name, where they had none for it
 abbrev pub HasAlso : {Z : Type 0} → List ℕ → ℕ → List (String Z × ℕ) → List (String Z × ℕ) → Type 0
 HasAlso name number es longer = (text : List ℕ)
     → number_under longer text ≡ number_or (number_under es text) name number text

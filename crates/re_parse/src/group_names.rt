@@ -54,6 +54,22 @@ fn put_number(
     }
 }
 
+// With the number of a name, where it has none before.
+fn with_name(
+    alloc: Global,
+    numbers: IndexMap<String, usize>,
+    name: &PyStr,
+    number: usize,
+) -> Result<IndexMap<String, usize>, AllocError>
+    ensures { IfOk result (λ longer. HasAlso name.now number numbers.entries longer.entries) }
+{
+    let known = numbers.get(name.as_str()).is_some();
+    if known {
+        return Ok(numbers);
+    }
+    put_number(alloc, numbers, name, number)
+}
+
 impl GroupNames {
     // None.
     pub(crate) fn new(alloc: Global) -> GroupNames
@@ -105,12 +121,7 @@ impl GroupNames {
     ) -> Result<GroupNames, AllocError>
         ensures { IfOk result (λ names. names ≡ self ++ (name, number) ∷ []) }
     {
-        let known = self.has(&name);
-        let numbers = if known {
-            self.numbers
-        } else {
-            put_number(alloc, self.numbers, &name, number)?
-        };
+        let numbers = with_name(alloc, self.numbers, &name, number)?;
         let mut order = self.order;
         order.push(Named { name, number })?;
         Ok(GroupNames { order, numbers })
