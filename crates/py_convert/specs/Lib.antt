@@ -1,0 +1,4 @@
+pub mod Index
+pub mod IntNew
+pub mod Outcomes
+pub mod Truth

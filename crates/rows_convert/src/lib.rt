@@ -1,0 +1,9 @@
+//! Tests of py_convert: conversions of values, and to and from types of Rust.
+#![tactic(auto)]
+
+#[cfg(test)]
+mod calls;
+#[cfg(test)]
+mod hosts;
+#[cfg(test)]
+mod integers;
