@@ -1,5 +1,6 @@
 -- What a call answers, seen as contracts see its value, and calls one after another.
-use Rattle.std.specs.Prelude.{Option, Some, None, Result, Ok, Err}
+use Rattle.std.specs.Prelude.{◌≡◌, Option, Some, None, Result, Ok, Err}
+use denote.Bor.{Bor}
 use Rattle.py_base.specs.declared.error.PyError.{PyError}
 use Rattle.py_base.specs.declared.error.type_names.OptionalArg.{OptionalArg}
 use Rattle.py_base.specs.declared.error.type_names.OptionalArg.TheVariants.{Present, Missing}
@@ -21,3 +22,22 @@ then_by (Err e) f = Err e
 abbrev pub given : OptionalArg Value → Option Plain
 given (Present v) = Some (plain_of v)
 given Missing = None
+
+-- what a reference refers to
+abbrev pub now_of : {A : Type 0} → Bor A → A
+now_of r = r.now
+
+-- a closure, by its `pre`, may be called on what there is
+abbrev pub MayBeCalled : {A : Type 0} → (Bor A → Type 0) → Result A PyError → Type 0
+MayBeCalled {A} pre (Ok a) = (p : Bor A) → p.now ≡ a → pre p
+MayBeCalled pre (Err e) = Unit {0}
+
+-- the result is what a closure, by its `post`, answers on what there is, or the error
+abbrev pub IsAnsweredBy : {A B : Type 0} → (Bor A → Result B PyError → Type 0) → Result A PyError → Result B PyError → Type 0
+IsAnsweredBy {A} post (Ok a) result = (p : Bor A) × (p.now ≡ a) × post p result
+IsAnsweredBy post (Err e) result = result ≡ Err e
+
+-- what f makes of an argument, where there is one
+abbrev pub argument_map : {A B : Type 0} → (A → B) → OptionalArg A → OptionalArg B
+argument_map f (Present a) = Present (f a)
+argument_map f Missing = Missing
