@@ -101,7 +101,7 @@ truth_silent (dict es) h = refl
 truth_silent (handle x) h = absurd (false_is_not_true h)
 
 -- of an index, whatever else may fail
-answer_fails : (p : PyError → Bool) → ((c : ClassName) → p (NotAnIndex c) ≡ true) → (a : Option Plain) → Fails p (gives (integer_answer a))
+pub answer_fails : (p : PyError → Bool) → ((c : ClassName) → p (NotAnIndex c) ≡ true) → (a : Option Plain) → Fails p (gives (integer_answer a))
 answer_fails p more None = more Object
 answer_fails p more (Some v) = fails_or p (integer_of v) (NotAnIndex Object) (more Object)
 

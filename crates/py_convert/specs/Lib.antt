@@ -1,8 +1,10 @@
 pub mod ConversionLaws
 pub mod Index
 pub mod IntNew
+pub mod Laws
 pub mod Numbers
 pub mod Objects
 pub mod Outcomes
 pub mod Parts
+pub mod Rows
 pub mod Truth

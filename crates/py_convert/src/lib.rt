@@ -11,6 +11,7 @@ mod from_object;
 mod index;
 mod int_new;
 mod into_object;
+pub mod laws;
 mod needed;
 mod to_pyobject;
 mod to_pyresult;

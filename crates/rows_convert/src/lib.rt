@@ -7,3 +7,9 @@ mod calls;
 mod hosts;
 #[cfg(test)]
 mod integers;
+#[cfg(test)]
+mod numbers;
+#[cfg(test)]
+mod objects;
+#[cfg(test)]
+mod parts;
