@@ -17,30 +17,6 @@ pub trait IntoObject: Into<Value> {
         ensures { plain_of result ≡ object self };
 }
 
-impl From<PyInt> for Value {
-    ghost from_gives = { λ number value. plain_of value ≡ int number };
-
-    fn from(number: PyInt) -> Value {
-        Value::Int(number)
-    }
-}
-
-impl From<PyStr> for Value {
-    ghost from_gives = { λ text value. plain_of value ≡ str text };
-
-    fn from(text: PyStr) -> Value {
-        Value::Str(text)
-    }
-}
-
-impl From<PyBytes> for Value {
-    ghost from_gives = { λ items value. plain_of value ≡ bytes items };
-
-    fn from(items: PyBytes) -> Value {
-        Value::Bytes(items)
-    }
-}
-
 impl IntoObject for Value {
     ghost object = { plain_of };
 

@@ -43,7 +43,7 @@ fn moved_into_values(rt: HostRuntime) -> Result<(), PyError> {
         is_a(Ok(PyStr::copy_of(alloc, "a")?.into_object())),
         matches!(
             PyBytes::copy_of(alloc, b"a")?.into_object(),
-            Value::Bytes(bytes) if bytes.as_bytes() == b"a"
+            Value::Bytes(bytes) if bytes.as_bytes() == b"a".as_slice()
         ),
     ];
     assert_eq!(rt; answers, [true; 4]);
