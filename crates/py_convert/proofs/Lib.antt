@@ -1,1 +1,3 @@
+pub mod EachLemmas
 pub mod IntLemmas
+pub mod NumberLemmas

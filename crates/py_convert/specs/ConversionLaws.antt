@@ -177,11 +177,11 @@ put_each_fails p f (v then vs) made h = fails_then p (f v) (λ a. put_each f vs 
 pub to_each_fails : {A : Type 0} (p : PyError → Bool) (f : Plain → Asking A) → ((v : Plain) → Fails p (f v)) → (v : Plain) → Fails (each_error p) (to_each f v)
 to_each_fails p f h v = fails_then (each_error p) (gives (needed_values v)) (λ vs. put_each f vs []) (fails_or (each_error p) (values_in v) (Downcast ListClass (class_of v)) refl) (λ vs. put_each_fails (each_error p) f vs [] (λ w. fails_more p (each_error p) (f w) (λ e. or_right (class_error e) (p e)) (h w)))
 
-and_left : (a b : Bool) → (a && b) ≡ true → a ≡ true
+pub and_left : (a b : Bool) → (a && b) ≡ true → a ≡ true
 and_left true b h = refl
 and_left false b h = h
 
-and_right : (a b : Bool) → (a && b) ≡ true → b ≡ true
+pub and_right : (a b : Bool) → (a && b) ≡ true → b ≡ true
 and_right true b h = h
 and_right false b h = absurd (false_is_not_true h)
 
