@@ -11,17 +11,15 @@ use Rattle.py_value.specs.Asking.{Asking, gives, asks, tests, ◌and_then◌, si
 use Rattle.py_value.specs.Classes.{class_of, integer_of}
 use Rattle.py_value.specs.NoHost.{false_is_not_true}
 use Rattle.py_value.specs.Plain.{Plain, Plains, none, bool, int, str, bytes, tuple, list, dict, handle, empty, ◌then◌, bare, values_bare}
+use Rattle.py_value.proofs.ErrorLemmas.{fails_or, fails_then}
+use Rattle.py_value.proofs.SilenceLemmas.{silent_then}
 use Rattle.py_convert.specs.Index.{index, index_error, own_integer, integer_answer}
 use Rattle.py_convert.specs.Numbers.{NumberType, narrowed, needed_int, to_number, number_error, index_within, index_within_error, seconds_of, duration, duration_error}
 use Rattle.py_convert.specs.Outcomes.{then_by}
 use Rattle.py_convert.specs.Parts.{text_in, bytes_in, values_in, needed_bool, needed_text, needed_bytes, needed_values, class_error, put_each, to_each, each_error, optional}
 use Rattle.py_convert.specs.Truth.{truth, truth_error, truth_by, length_answer, own_bool, bool_answer}
 
--- of an option, of a choice, and of two results one after another
-fails_or : {A : Type 0} (p : PyError → Bool) (o : Option A) (e : PyError) → p e ≡ true → Fails p (gives (ok_or o e))
-fails_or p (Some a) e h = tt
-fails_or p None e h = h
-
+-- of a choice, and of two results one after another
 fails_if : {A : Type 0} (p : PyError → Bool) (b : Bool) (a : A) (e : PyError) → p e ≡ true → Fails p (gives (if b then Ok a else Err e))
 fails_if p true a e h = tt
 fails_if p false a e h = h
@@ -34,25 +32,12 @@ fails_by : {A B : Type 0} (p : PyError → Bool) (r : Result A PyError) (f : A �
 fails_by p (Ok a) f h more = more a
 fails_by p (Err e) f h more = h
 
-fails_then : {A B : Type 0} (p : PyError → Bool) (call : Asking A) (f : A → Asking B) → Fails p call → ((a : A) → Fails p (f a)) → Fails p (call and_then f)
-fails_then p (gives (Ok a)) f r more = more a
-fails_then p (gives (Err e)) f r more = r
-fails_then p (asks q m k next) f r more = λ a. fails_then p (next a) f (r a) more
-fails_then p (tests q next) f r more = λ b. fails_then p (next b) f (r b) more
-
 -- of a test that lets more pass
 fails_more : {A : Type 0} (p q : PyError → Bool) (call : Asking A) → ((e : PyError) → p e ≡ true → q e ≡ true) → Fails p call → Fails q call
 fails_more p q (gives (Ok a)) more h = tt
 fails_more p q (gives (Err e)) more h = more e h
 fails_more p q (asks x m k next) more h = λ a. fails_more p q (next a) more (h a)
 fails_more p q (tests x next) more h = λ b. fails_more p q (next b) more (h b)
-
--- a call that asks nothing, and then others that ask nothing
-silent_then : {A B : Type 0} (call : Asking A) (f : A → Asking B) → silent call ≡ true → ((a : A) → silent (f a) ≡ true) → silent (call and_then f) ≡ true
-silent_then (gives (Ok a)) f h more = more a
-silent_then (gives (Err e)) f h more = refl
-silent_then (asks q m k next) f h more = absurd (false_is_not_true h)
-silent_then (tests q next) f h more = absurd (false_is_not_true h)
 
 -- of `bool(v)`
 length_by : (class : ClassName) (n : Option ℤ) → Fails truth_error (gives (truth_by class n))

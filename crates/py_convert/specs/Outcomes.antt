@@ -30,12 +30,12 @@ now_of r = r.now
 -- a closure, by its `pre`, may be called on what there is
 abbrev pub MayBeCalled : {A : Type 0} → (Bor A → Type 0) → Result A PyError → Type 0
 MayBeCalled {A} pre (Ok a) = (p : Bor A) → p.now ≡ a → pre p
-MayBeCalled pre (Err e) = Unit {0}
+MayBeCalled {A} pre (Err e) = Unit {0}
 
 -- the result is what a closure, by its `post`, answers on what there is, or the error
 abbrev pub IsAnsweredBy : {A B : Type 0} → (Bor A → Result B PyError → Type 0) → Result A PyError → Result B PyError → Type 0
 IsAnsweredBy {A} post (Ok a) result = (p : Bor A) × (p.now ≡ a) × post p result
-IsAnsweredBy post (Err e) result = result ≡ Err e
+IsAnsweredBy {A} post (Err e) result = result ≡ Err e
 
 -- what f makes of an argument, where there is one
 abbrev pub argument_map : {A B : Type 0} → (A → B) → OptionalArg A → OptionalArg B

@@ -15,8 +15,8 @@ use py_base::PyResult;
 use py_value::{Host, Value};
 use std::alloc::Global;
 
-/// A type that a borrowed value is converted to. Contracts see the one conversion that the type has, and the
-/// errors that it may come to at all.
+/// A type that a borrowed value is converted to. Contracts see the one conversion that the type
+/// has, and the errors that it may come to at all.
 pub trait TryFromBorrowedObject<'a>: Sized {
     /// What contracts see of a converted value.
     ghost View: { Type 0 };
