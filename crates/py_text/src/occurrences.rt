@@ -54,9 +54,9 @@ pub(crate) fn around_first<'a>(text: &'a str, needle: &str) -> Option<(&'a str, 
 {
     match text.find(needle) {
         Some(at) => {
-            let (front, tail) = text.split_at(at);
-            let (middle, back) = tail.split_at(needle.len());
-            Some((front, middle, back))
+            let (before, rest) = text.split_at(at);
+            let (middle, after) = rest.split_at(needle.len());
+            Some((before, middle, after))
         }
         None => None,
     }
@@ -73,9 +73,9 @@ pub(crate) fn around_last<'a>(text: &'a str, needle: &str) -> Option<(&'a str, &
 {
     match text.rfind(needle) {
         Some(at) => {
-            let (front, tail) = text.split_at(at);
-            let (middle, back) = tail.split_at(needle.len());
-            Some((front, middle, back))
+            let (before, rest) = text.split_at(at);
+            let (middle, after) = rest.split_at(needle.len());
+            Some((before, middle, after))
         }
         None => None,
     }

@@ -71,7 +71,7 @@ fn end_of_char(text: &str, at: usize) -> usize
     requires boundary { IsCharBoundary text.now at }
     requires there { at < length text.now }
     ensures boundary { IsCharBoundary text.now result }
-    ensures front { chars (take result text.now)
+    ensures before { chars (take result text.now)
         ≡ chars (take at text.now) ++ take 1 (chars (drop at text.now)) }
     ensures rest { chars (drop result text.now) ≡ drop 1 (chars (drop at text.now)) }
 {

@@ -80,7 +80,7 @@ impl fmt::Display for PrimitiveName {
 }
 
 /// An argument that a caller may leave out.
-#[derive(Clone, Copy, Debug, PartialEq, Eq)]
+#[derive(Clone, Copy, Debug, Drop, PartialEq, Eq)]
 pub enum OptionalArg<T> {
     Present(T),
     Missing,

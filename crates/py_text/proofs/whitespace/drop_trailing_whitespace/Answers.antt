@@ -18,7 +18,7 @@ returns-in-Some c =
     let f = c.in-Some.ensures.cases.1 (λ d. not (is_ascii_whitespace d)) (answers_always _ _ _ (λ f a r g h. search rules)) in
     let t : slice_range c.args.text.now 0 c.end_of_char.result ≡ take c.end_of_char.result c.args.text.now = grind arith in
     ap (λ l. reverse (chars l)) (c.range.ensures.value ∙ t)
-    ∙ sym (found_back (λ d. not (is_ascii_whitespace d)) is_ascii_whitespace (λ d. sym (twice_not (is_ascii_whitespace d))) c.args.text.now c.in-Some.at c.in-Some.ensures.cases.0 c.end_of_char.result c.utf8.text f c.in-Some.ensures.cases.3 c.in-Some.ensures.cases.4 c.end_of_char.ensures.front c.end_of_char.ensures.rest).skipped
+    ∙ sym (found_back (λ d. not (is_ascii_whitespace d)) is_ascii_whitespace (λ d. sym (twice_not (is_ascii_whitespace d))) c.args.text.now c.in-Some.at c.in-Some.ensures.cases.0 c.end_of_char.result c.utf8.text f c.in-Some.ensures.cases.3 c.in-Some.ensures.cases.4 c.end_of_char.ensures.before c.end_of_char.ensures.rest).skipped
 
 pub returns-in-None : goal.returns-in-None
 returns-in-None c =

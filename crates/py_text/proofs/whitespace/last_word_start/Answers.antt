@@ -13,12 +13,12 @@ end_of_char-requires-clause-there c =
 pub returns-in-Some-clause-word : goal.returns-in-Some-clause-word
 returns-in-Some-clause-word c =
     let f = c.in-Some.ensures.cases.1 is_ascii_whitespace (answers_always _ _ _ (λ f a r g h. search rules)) in
-    sym (found_back is_ascii_whitespace (λ d. not (is_ascii_whitespace d)) (λ d. refl) c.args.text.now c.in-Some.at c.in-Some.ensures.cases.0 c.end_of_char.result c.utf8.text f c.in-Some.ensures.cases.3 c.in-Some.ensures.cases.4 c.end_of_char.ensures.front c.end_of_char.ensures.rest).taken
+    sym (found_back is_ascii_whitespace (λ d. not (is_ascii_whitespace d)) (λ d. refl) c.args.text.now c.in-Some.at c.in-Some.ensures.cases.0 c.end_of_char.result c.utf8.text f c.in-Some.ensures.cases.3 c.in-Some.ensures.cases.4 c.end_of_char.ensures.before c.end_of_char.ensures.rest).taken
 
 pub returns-in-Some-clause-rest : goal.returns-in-Some-clause-rest
 returns-in-Some-clause-rest c =
     let f = c.in-Some.ensures.cases.1 is_ascii_whitespace (answers_always _ _ _ (λ f a r g h. search rules)) in
-    sym (found_back is_ascii_whitespace (λ d. not (is_ascii_whitespace d)) (λ d. refl) c.args.text.now c.in-Some.at c.in-Some.ensures.cases.0 c.end_of_char.result c.utf8.text f c.in-Some.ensures.cases.3 c.in-Some.ensures.cases.4 c.end_of_char.ensures.front c.end_of_char.ensures.rest).skipped
+    sym (found_back is_ascii_whitespace (λ d. not (is_ascii_whitespace d)) (λ d. refl) c.args.text.now c.in-Some.at c.in-Some.ensures.cases.0 c.end_of_char.result c.utf8.text f c.in-Some.ensures.cases.3 c.in-Some.ensures.cases.4 c.end_of_char.ensures.before c.end_of_char.ensures.rest).skipped
 
 pub returns-in-None-clause-boundary : goal.returns-in-None-clause-boundary
 returns-in-None-clause-boundary c = IsCharBoundary-start c.args.text.now c.utf8.text
