@@ -23,7 +23,8 @@ put text pool = put_by (place_of text pool) text pool
 
 -- no two places have one text
 abbrev pub AreDistinct : List (List ℕ) → Type 0
-AreDistinct pool = (a b : ℕ) (text : List ℕ) → slice_get pool a ≡ Some text → slice_get pool b ≡ Some text → a ≡ b
+AreDistinct pool =
+    (a b : ℕ) (text : List ℕ) → slice_get pool a ≡ Some text → slice_get pool b ≡ Some text → a ≡ b
 
 -- each key is the text of its value
 abbrev pub KeysAreTexts : {Z : Type 0} → List (String Z × List ℕ) → Type 0

@@ -5,7 +5,7 @@ ghost use Rattle.std.specs.Prelude.{◌≡◌};
 use py_text::PyStr;
 use std::marker::{Model, PhantomData};
 
-/// A number that stands for a `T` in a pool. It is copied, and keeps neither the pool nor the `T`:
+/// The number of a `T` in a pool. It is copied, and keeps neither the pool nor the `T`:
 /// a handle means something in its own pool, and in copies of that pool. Contracts see the number.
 #[derive_where(Clone, Copy, Debug, PartialEq, Eq, PartialOrd, Ord, Hash)]
 pub struct PyInterned<T> {

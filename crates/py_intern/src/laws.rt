@@ -14,7 +14,8 @@ pub fn handles_equal_as_texts()
 
 /// Handles are ordered as their places, by `<` and by the order that sorts and maps use.
 pub fn handles_ordered_as_put()
-    ensures { AreOrderedAsPut ⟦<PyStrInterned as PartialOrd>⟧.partial_cmp ⟦<PyStrInterned as Ord>⟧.cmp }
+    ensures { AreOrderedAsPut ⟦<PyStrInterned as PartialOrd>⟧.partial_cmp
+        ⟦<PyStrInterned as Ord>⟧.cmp }
 {}
 
 /// The handle of a text that is new in its pool is greater than all handles before it.

@@ -11,7 +11,7 @@ use std::alloc::Global;
 
 /// The methods of Python's `bytes` that decode and quote.
 pub trait BytesMore {
-    /// The bytes that it stands for.
+    /// Its bytes.
     ghost bytes: { Self → List ℕ };
 
     /// The text that the bytes are in UTF-8. (Python Library Reference, Bytes and Bytearray

@@ -28,7 +28,7 @@ pub fn no_tab_is_left()
 {}
 
 /// A tab becomes at least one space, and as many as reach the next column that is a multiple of the
-/// size. What is before it stands alone, and what is after it goes on at that column.
+/// size. What is before it is expanded as if alone, and what is after it goes on at that column.
 pub fn tabs_reach_multiples()
     ensures { TabsReachMultiples }
 {}

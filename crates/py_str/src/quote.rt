@@ -69,7 +69,7 @@ fn kept_ascii(text: &str, quote: char) -> usize
 // after it. ASCII at the start is walked over by bytes.
 fn first_escaped(text: &str, ascii: bool, quote: char) -> Option<(&str, char, &str)>
     ensures text { IfSome result (λ p. IsUtf8 p.2.now) }
-    ensures front { MatchOption result
+    ensures before { MatchOption result
         (take_while (keeps ascii quote) (chars text.now) ≡ chars text.now)
         (λ p. take_while (keeps ascii quote) (chars text.now) ≡ chars p.0.now) }
     ensures rest { MatchOption result (skip_while (keeps ascii quote) (chars text.now) ≡ [])
@@ -177,10 +177,10 @@ fn push_chars(out: &mut PyStr, ascii: bool, quote: char, text: &str) -> PyResult
     ensures err { IsOkUnless result PyError.NoMemory }
 {
     let mut rest = text;
-    'runs: while let Some((front, c, back)) = first_escaped(rest, ascii, quote) {
-        out.append(front)?;
+    'runs: while let Some((before, c, after)) = first_escaped(rest, ascii, quote) {
+        out.append(before)?;
         push_quoted(out, quote, is_plain(ascii, c), c)?;
-        rest = back;
+        rest = after;
     }
     out.append(rest)?;
     Ok(())

@@ -17,7 +17,7 @@ use std::alloc::Global;
 // ASCII, so they are looked for among the bytes.
 fn first_stop(text: &str) -> Option<(&str, char, &str)>
     ensures text { IfSome result (λ p. IsUtf8 p.2.now) }
-    ensures front { MatchOption result (take_while spec.is_inside (chars text.now) ≡ chars text.now)
+    ensures before { MatchOption result (take_while spec.is_inside (chars text.now) ≡ chars text.now)
         (λ p. take_while spec.is_inside (chars text.now) ≡ chars p.0.now) }
     ensures rest { MatchOption result (skip_while spec.is_inside (chars text.now) ≡ [])
         (λ p. skip_while spec.is_inside (chars text.now) ≡ p.1 ∷ chars p.2.now) }
@@ -64,10 +64,10 @@ fn push_expanded(out: &mut PyStr, size: usize, text: &str) -> PyResult<()>
 {
     let mut rest = text;
     let mut begins = out.len();
-    'runs: while let Some((front, c, back)) = first_stop(rest) {
-        out.append(front)?;
+    'runs: while let Some((before, c, after)) = first_stop(rest) {
+        out.append(before)?;
         begins = push_stop(out, size, begins, c)?;
-        rest = back;
+        rest = after;
     }
     out.append(rest)?;
     Ok(())

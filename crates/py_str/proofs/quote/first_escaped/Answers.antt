@@ -16,8 +16,8 @@ chars-preserved c = rw c.len_utf8-at.ensures.value (passed_more _ _ _ _ c.chars.
 pub range-requires-clause-end_boundary : goal.range-requires-clause-end_boundary
 range-requires-clause-end_boundary c = passed_place _ _ _ _ c.chars.invariant
 
-pub returns-then-not-is_kept-clause-front : goal.returns-then-not-is_kept-clause-front
-returns-then-not-is_kept-clause-front c =
+pub returns-then-not-is_kept-clause-before : goal.returns-then-not-is_kept-clause-before
+returns-then-not-is_kept-clause-before c =
     let t : slice_range c.args.text.now 0 c.chars.at ≡ take c.chars.at c.args.text.now = grind arith in
     stop_taken (λ d. is_kept c.args.quote (plain_of c.args.ascii d) d) _ _ _ c.chars.at c.in-Some.c (sym c.is_kept.ensures ∙ c.if-not-is_kept.true) c.in-Some.ensures.steps.0 c.chars.invariant
     ∙ ap chars (sym (c.range.ensures.value ∙ t))

@@ -8,8 +8,8 @@ pub range_from-requires : goal.range_from-requires
 range_from-requires c = λ _.
     found_ends c.args.text.now c.in-Some.at c.utf8.text (found c.args.text.now c.as_bytes-bytes.result.now c.in-Some.at c.as_bytes-bytes.ensures.value c.in-Some.ensures.0 c.in-Some.ensures.1)
 
-pub returns-in-Some-clause-front : goal.returns-in-Some-clause-front
-returns-in-Some-clause-front c =
+pub returns-in-Some-clause-before : goal.returns-in-Some-clause-before
+returns-in-Some-clause-before c =
     let s = c.args.text.now in
     let at = c.in-Some.at in
     let f = found s c.as_bytes-bytes.result.now at c.as_bytes-bytes.ensures.value c.in-Some.ensures.0 c.in-Some.ensures.1 in
@@ -28,8 +28,8 @@ returns-in-Some-clause-rest c =
     ∙ ap (λ (d : ℕ). d ∷ chars (drop (c.in-Some.at + 1) c.args.text.now)) b
     ∙ ap (λ (l : List ℕ). c.from.result ∷ chars l) (sym c.range_from.ensures.value)
 
-pub returns-in-None-clause-front : goal.returns-in-None-clause-front
-returns-in-None-clause-front c =
+pub returns-in-None-clause-before : goal.returns-in-None-clause-before
+returns-in-None-clause-before c =
     let s = c.args.text.now in
     all_taken is_inside s (drop (length s) s) (length s) (none_left s) (passed_whole s c.as_bytes-bytes.result.now c.as_bytes-bytes.ensures.value c.utf8.text c.in-None.ensures)
 
