@@ -23,6 +23,11 @@ pub fn new_handle_is_the_greatest()
     ensures { NewIsGreatest ⟦<PyStrInterned as Ord>⟧.cmp }
 {}
 
+/// Handles that are equal by `==` make the same writes to a hasher.
+pub fn equal_handles_hash_alike()
+    ensures { HashAlike ⟦<PyStrInterned as PartialEq>⟧.eq ⟦<PyStrInterned as Hash>⟧.hash_input }
+{}
+
 /// Keys of a map are equal exactly where their code points are.
 pub fn keys_equal_as_texts()
     ensures { AreEqualAsLists ⟦<CachedPyStrRef as PartialEq>⟧.eq }

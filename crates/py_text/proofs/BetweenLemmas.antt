@@ -10,7 +10,7 @@ use Rattle.py_text.specs.Mirror.{mirrored}
 use Rattle.py_text.specs.Pieces.{limit}
 use Rattle.py_text.specs.Whitespace.{until_whitespace, from_whitespace, split_whitespace}
 
-but_last_more : (P : List ℕ → Type 0) (x : List ℕ) (ps : List (List ℕ)) → P x → AllButLast P ps → AllButLast P (x ∷ ps)
+pub but_last_more : (P : List ℕ → Type 0) (x : List ℕ) (ps : List (List ℕ)) → P x → AllButLast P ps → AllButLast P (x ∷ ps)
 but_last_more P x [] p h = tt
 but_last_more P x (y ∷ ys) p h = (p, h)
 

@@ -46,7 +46,7 @@ pieces_joined (suc k) x L p some = pieces_case k x L p (first_in x L p (length L
 split_joined : (k : ℕ) (x L : List ℕ) → 0 < length x → join x (split k x L) ≡ L
 split_joined k x L some = pieces_joined k x L 0 some
 
-some_length : (x : List ℕ) → x ≢ [] → 0 < length x
+pub some_length : (x : List ℕ) → x ≢ [] → 0 < length x
 some_length [] n = absurd (n refl)
 some_length (c ∷ cs) n = omega arith
 

@@ -5,8 +5,10 @@ pub mod BetweenLemmas
 pub mod BuildingLemmas
 pub mod CursorLemmas
 pub mod EndLemmas
+pub mod LackLemmas
 pub mod LawLemmas
 pub mod LeastLemmas
+pub mod LineEndLemmas
 pub mod LineLemmas
 pub mod MirrorLemmas
 pub mod OccurrenceLemmas
@@ -17,6 +19,7 @@ pub mod PlaceLemmas
 pub mod PointLemmas
 pub mod ReplacingLemmas
 pub mod SliceLemmas
+pub mod SpacedLemmas
 pub mod StartLemmas
 pub mod StrideLemmas
 pub mod SumLemmas

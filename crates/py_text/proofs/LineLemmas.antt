@@ -9,22 +9,22 @@ use Rattle.py_text.specs.Lines.{starts_with_lf, closes_line, end_width, onto_fir
 use Rattle.py_text.specs.Occurrences.{occurs_at}
 use Rattle.py_text.proofs.OccursLemmas.{occurs_true, occurs_means, not_true}
 
-and_first : (a b : Bool) → (a && b) ≡ true → a ≡ true
+pub and_first : (a b : Bool) → (a && b) ≡ true → a ≡ true
 and_first true b h = refl
 and_first false b h = h
 
-and_second : (a b : Bool) → (a && b) ≡ true → b ≡ true
+pub and_second : (a b : Bool) → (a && b) ≡ true → b ≡ true
 and_second true b h = h
 and_second false b h = absurd (cc)
 
 -- the line that begins with c, where it is no line end
-begun : (c : ℕ) (cs : List ℕ) → is_line_end c ≡ false → whole_lines (c ∷ cs) ≡ onto_first_line c (whole_lines cs)
+pub begun : (c : ℕ) (cs : List ℕ) → is_line_end c ≡ false → whole_lines (c ∷ cs) ≡ onto_first_line c (whole_lines cs)
 begun c cs h = ap (λ t. if t && not (c == 0x0D && starts_with_lf cs) then (c ∷ []) ∷ whole_lines cs else onto_first_line c (whole_lines cs)) h
 
-taken_on : (c : ℕ) (cs : List ℕ) → is_line_end c ≡ false → take_while (λ c. not (is_line_end c)) (c ∷ cs) ≡ c ∷ take_while (λ c. not (is_line_end c)) cs
+pub taken_on : (c : ℕ) (cs : List ℕ) → is_line_end c ≡ false → take_while (λ c. not (is_line_end c)) (c ∷ cs) ≡ c ∷ take_while (λ c. not (is_line_end c)) cs
 taken_on c cs h = take_while-cons (λ c. not (is_line_end c)) c cs ∙ ap (λ t. cond (not t) (c ∷ take_while (λ c. not (is_line_end c)) cs) []) h
 
-taken_none : (c : ℕ) (cs : List ℕ) → is_line_end c ≡ true → take_while (λ c. not (is_line_end c)) (c ∷ cs) ≡ []
+pub taken_none : (c : ℕ) (cs : List ℕ) → is_line_end c ≡ true → take_while (λ c. not (is_line_end c)) (c ∷ cs) ≡ []
 taken_none c cs h = take_while-cons (λ c. not (is_line_end c)) c cs ∙ ap (λ t. cond (not t) (c ∷ take_while (λ c. not (is_line_end c)) cs) []) h
 
 skipped_on : (c : ℕ) (cs : List ℕ) → is_line_end c ≡ false → skip_while (λ c. not (is_line_end c)) (c ∷ cs) ≡ skip_while (λ c. not (is_line_end c)) cs
@@ -33,7 +33,7 @@ skipped_on c cs h = ap (λ t. if not t then skip_while (λ c. not (is_line_end c
 skipped_none : (c : ℕ) (cs : List ℕ) → is_line_end c ≡ true → skip_while (λ c. not (is_line_end c)) (c ∷ cs) ≡ c ∷ cs
 skipped_none c cs h = ap (λ t. if not t then skip_while (λ c. not (is_line_end c)) cs else c ∷ cs) h
 
-lf_first : (cs : List ℕ) → starts_with_lf cs ≡ true → (ds : List ℕ) × (cs ≡ 0x0A ∷ ds)
+pub lf_first : (cs : List ℕ) → starts_with_lf cs ≡ true → (ds : List ℕ) × (cs ≡ 0x0A ∷ ds)
 lf_first [] h = absurd (cc)
 lf_first (d ∷ ds) h = (ds, ap (λ e. e ∷ ds) (eqb-true d 0x0A h))
 

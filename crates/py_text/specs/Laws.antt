@@ -1,5 +1,5 @@
 -- Laws of texts and bytes.
-use Rattle.std.specs.Prelude.{◌≡◌, ◌<◌, ◌≤◌, ◌≤ℤ◌, ◌↔◌, ◌≢◌, ⊤, ℕ, ◌+◌, zero, suc, ℤ, pos, Bool, IsTrue, true, false, All, List, [], ◌∷◌, ◌++◌, length, Option, Some, None}
+use Rattle.std.specs.Prelude.{◌≡◌, ◌<◌, ◌≤◌, ◌≤ℤ◌, ◌↔◌, ◌≢◌, ◌<ℤ◌, ◌⊎◌, ⊤, ℕ, ◌+◌, zero, suc, ℤ, pos, Bool, IsTrue, true, false, All, List, [], ◌∷◌, ◌++◌, length, Option, Some, None}
 use Rattle.std.specs.List.{concat}
 use Rattle.std.specs.Option.{option_to_list}
 use Rattle.std.specs.declared.cmp.Ordering.{Ordering}
@@ -10,7 +10,7 @@ use Rattle.py_text.specs.Occurrences.{occurrences, occurs_at, first_in, last_in}
 use Rattle.py_text.specs.Replacing.{join, replace}
 use Rattle.py_text.specs.Partitions.{partition, rpartition}
 use Rattle.py_text.specs.Iterator.{Position, rest_of, next_of, after_next, moved_to}
-use Rattle.py_text.specs.Lines.{split_lines}
+use Rattle.py_text.specs.Lines.{closes_line, without_end, split_lines}
 use Rattle.py_text.specs.Subscript.{places_from, start_of, stop_of}
 use Rattle.py_text.specs.Pieces.{split, split_by, rsplit_by}
 use Rattle.py_text.specs.Hash.{text_hash}
@@ -144,9 +144,62 @@ PiecesBetweenWhitespace = (m : ℤ) (L : List ℕ) → AreBetweenWhitespace (spl
 abbrev pub PiecesBetweenFromRight : Type 0
 PiecesBetweenFromRight = (m : ℤ) (L : List ℕ) → AreBetweenFromRight (rsplit_by None m L)
 
+-- nothing but whitespace
+abbrev pub HasOnlyWhitespace : List ℕ → Type 0
+HasOnlyWhitespace gap = All (λ c. is_ascii_whitespace c ≡ true) gap
+
+-- a piece ends before this: nothing is left, or whitespace is first
+abbrev pub IsCutOff : List ℕ → Type 0
+IsCutOff [] = ⊤
+IsCutOff (c ∷ cs) = is_ascii_whitespace c ≡ true
+
+-- the text is these pieces in this order, with whitespace around them and nothing else
+abbrev pub IsSpaced : List (List ℕ) → List ℕ → Type 0
+IsSpaced [] L = HasOnlyWhitespace L
+IsSpaced (p ∷ ps) L =
+    (gap : List ℕ) × (rest : List ℕ) × (L ≡ gap ++ (p ++ rest)) × HasOnlyWhitespace gap
+    × IsCutOff rest × IsSpaced ps rest
+
+-- the text is the pieces of `split` without a separator, and the whitespace around them
+abbrev pub WhitespacePiecesAreTheText : Type 0
+WhitespacePiecesAreTheText = (m : ℤ) (L : List ℕ) → IsSpaced (split_by None m L) L
+
 -- the lines with their ends, joined, are the text
 abbrev pub LinesAreTheText : Type 0
 LinesAreTheText = (L : List ℕ) → concat (split_lines true L) ≡ L
+
+-- one line end, where this is after it: CR LF, or one character; CR alone only where no LF follows
+abbrev pub IsOneEnd : List ℕ → List ℕ → Type 0
+IsOneEnd rest end =
+    (end ≡ 0x0D ∷ 0x0A ∷ []) ⊎ ((c : ℕ) × (end ≡ c ∷ []) × (closes_line c rest ≡ true))
+
+-- a line before the rest of a text: one line end is at its end and none before that; the last line
+-- may be without, but then it is not empty
+abbrev pub IsLine : List ℕ → List ℕ → Type 0
+IsLine l rest =
+    ((end : List ℕ) × (l ≡ without_end l ++ end) × IsOneEnd rest end)
+    ⊎ ((rest ≡ []) × (l ≢ []) × (without_end l ≡ l))
+
+-- each is a line before those after it
+abbrev pub AreLines : List (List ℕ) → Type 0
+AreLines [] = ⊤
+AreLines (l ∷ ls) = IsLine l (concat ls) × AreLines ls
+
+-- each line with its end has one line end, at its end
+abbrev pub LinesEndOnce : Type 0
+LinesEndOnce = (L : List ℕ) → AreLines (split_lines true L)
+
+-- x occurs nowhere in the piece
+abbrev pub Lacks : List ℕ → List ℕ → Type 0
+Lacks x p = first_in x p 0 (length p) ≡ None
+
+-- a separator that is not empty occurs in no piece of `split` but the last, and without a limit in
+-- none
+abbrev pub PiecesLackTheSeparator : Type 0
+PiecesLackTheSeparator =
+    (x L : List ℕ) (m : ℤ) → x ≢ []
+    → AllButLast (Lacks x) (split_by (Some x) m L)
+    × (m <ℤ pos 0 → All (Lacks x) (split_by (Some x) m L))
 
 -- the pieces of `split`, joined by a separator that is not empty, are the text, for each maxsplit
 abbrev pub PiecesAreTheText : Type 0

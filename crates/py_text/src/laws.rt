@@ -1,7 +1,7 @@
 //! Laws of texts and bytes: facts that follow from the definitions, and from each type's own
 //! equality and order.
 
-ghost use Rattle.py_text.specs.Laws.{AreEqualAsLists, AreOrderedByFirstDifference, HavePrefixesFirst, AreEqualInOrder, AreComparedAsOrdered, HashAlike, HaveOneHash, GivesTheRest, NothingPastTheEnd, StaysExhausted, NoMorePlaces, FirstIsLeast, LastIsGreatest, NoMoreOccurrences, NoMoreReplaced, NoMoreWhitespacePieces, PiecesBetweenWhitespace, PiecesBetweenFromRight, LinesAreTheText, PiecesAreTheText, PiecesFromRightAreTheText, PartsAreTheText};
+ghost use Rattle.py_text.specs.Laws.{AreEqualAsLists, AreOrderedByFirstDifference, HavePrefixesFirst, AreEqualInOrder, AreComparedAsOrdered, HashAlike, HaveOneHash, GivesTheRest, NothingPastTheEnd, StaysExhausted, NoMorePlaces, FirstIsLeast, LastIsGreatest, NoMoreOccurrences, NoMoreReplaced, NoMoreWhitespacePieces, PiecesBetweenWhitespace, PiecesBetweenFromRight, WhitespacePiecesAreTheText, LinesAreTheText, LinesEndOnce, PiecesLackTheSeparator, PiecesAreTheText, PiecesFromRightAreTheText, PartsAreTheText};
 
 use crate::bytes::PyBytes;
 use crate::text::PyStr;
@@ -130,9 +130,26 @@ pub fn pieces_between_from_right()
     ensures { PiecesBetweenFromRight }
 {}
 
+/// A text is the pieces of `split` without a separator in their order, with whitespace before them,
+/// between two of them and after them, and nothing else.
+pub fn whitespace_pieces_are_the_text()
+    ensures { WhitespacePiecesAreTheText }
+{}
+
 /// The lines with their ends, joined, are the text.
 pub fn lines_are_the_text()
     ensures { LinesAreTheText }
+{}
+
+/// Each line with its end has one line end, which is at its end; CR LF is one. The last line may be
+/// without.
+pub fn lines_end_once()
+    ensures { LinesEndOnce }
+{}
+
+/// The separator occurs in no piece of `split` but the last, and without a limit in none.
+pub fn pieces_lack_the_separator()
+    ensures { PiecesLackTheSeparator }
 {}
 
 /// The pieces of `split`, joined by the separator, are the text.
