@@ -7,10 +7,10 @@ ghost use Rattle.std.specs.Prelude.{◌≡◌, ◌≢◌, ◌+◌, ◌≤◌, �
 ghost use Rattle.sre_match.specs.Machine.{ahead_of, part_next, to_try, Sound, Gives, Leaves, Linked, rest_of, trying};
 ghost use Rattle.sre_match.specs.Attempts.{Attempt, after, Marks};
 ghost use Rattle.sre_match.specs.Paths.{all_paths};
-ghost use Rattle.sre_match.specs.Anchors as places;
+ghost use Rattle.sre_match.specs.Anchors as anchors;
 ghost use Rattle.sre_match.specs.Singles as singles;
 ghost use Rattle.sre_match.specs.Branches as spec;
-ghost use Rattle.sre_match.specs.Leads.{all_single, any_left};
+ghost use Rattle.sre_match.specs.FirstUnit.{all_single, any_left};
 ghost use Rattle.sre_code.specs.TreeView.{node_of, trees_of};
 
 use crate::matcher::choices::keep;
@@ -25,7 +25,7 @@ use std::sync::ledger::Ledger;
 
 // Whether there is a unit and it meets a node that is one unit.
 fn is_met(node: &Node, unit: Option<u32>) -> bool
-    ensures { result ≡ places.is_met (singles.meets (node_of node.now)) unit }
+    ensures { result ≡ anchors.is_met (singles.meets (node_of node.now)) unit }
 {
     match unit {
         Some(c) => meets(node, c),
@@ -69,7 +69,7 @@ pub fn left_of<'t>(trees: &'t [Tree], unit: Option<u32>) -> &'t [Tree]
 
 // Alternatives for later, of which a last one is its nodes.
 #[tactic(auto, using(crate::proofs::TurnLemmas::alone))]
-fn later<'t>(more: &'t [Tree]) -> Part<'t>
+fn kept_part<'t>(more: &'t [Tree]) -> Part<'t>
     requires { more.now ≢ [] }
     ensures { (s : List ℕ) (p : ℕ) (m : Marks)
         → part_next result s p m ≡ all_paths (trees_of more.entry.now) s p m }
@@ -105,7 +105,7 @@ fn keep_later<'t>(
     keep(
         trail,
         ChoiceKind::Try,
-        later(more),
+        kept_part(more),
         current.rest,
         current.cursor,
     )

@@ -3,7 +3,7 @@ use Rattle.sre_code.specs.TreeView.{tree_of}
 use Rattle.sre_match.specs.Machine.{part_next, allowed_by}
 use Rattle.sre_match.specs.Attempts.{chosen, cost_of}
 use Rattle.sre_match.specs.Matches.{is_allowed}
-use Rattle.sre_match.proofs.LeadLemmas.{begins, first_ends, first_cost, leaves_tree, if_ok}
+use Rattle.sre_match.proofs.ProgressLemmas.{begins, first_ends, first_cost, leaves_tree, if_ok}
 use Rattle.sre_match.proofs.matcher.machine.find_at.Goals as goal
 
 pub returns-in-None-clause-found : goal.returns-in-None-clause-found
