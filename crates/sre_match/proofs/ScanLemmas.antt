@@ -83,6 +83,10 @@ pub left_some : (ts : List PlainTree) (u : Option ℕ) → any_left (left_of ts 
 left_some [] u h e = false≢true h
 left_some (t ∷ ts) u h e = let f : ⊥ = omega (arith, ap length e) in f
 
+pub none_left : (ts : List PlainTree) → length ts < 1 → any_left ts ≡ true → ⊥
+none_left [] l h = false≢true h
+none_left (t ∷ ts) l h = let f : ⊥ = omega (arith, l) in f
+
 left_head : (b : Bool) (x : PlainTree) (xs : List PlainTree) (u : Option ℕ) (t : PlainTree) (rest : List PlainTree) → is_out x u ≡ b → begins_single x ≡ true → (left_of xs u ≡ t ∷ rest → (begins_single t ≡ true) × (is_out t u ≡ false))
     → (elim b as (λ _. List PlainTree) [ true ↦ left_of xs u | false ↦ x ∷ xs ]) ≡ t ∷ rest → (begins_single t ≡ true) × (is_out t u ≡ false)
 left_head true x xs u t rest o h on k = on k

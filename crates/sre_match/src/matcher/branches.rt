@@ -138,23 +138,23 @@ fn met_turn<'t, S: StrDrive>(
     s: &Subject<'_, S>,
     current: &mut Current<'t>,
     trail: &mut Trail<'t>,
-) -> Turn
+) -> Result<(), AllocError>
     requires within { current.old.cursor.place < length s.now }
+    requires begins { spec.begins_single t.now ≡ true }
+    requires met { spec.is_out t.now (slice_get s.now current.old.cursor.place) ≡ false }
     requires ready { Ready (S.fits s.now) current.old trail.old }
-    ensures gives { (n : ℕ) → spec.begins_single t.now ≡ true
-        → spec.is_out t.now (slice_get s.now current.old.cursor.place) ≡ false
-        → Gives result current.new s.now trail.new n (n + 1)
-        (trying (spec.each_paths (t.now ∷ more.entry.now) s.now) current.old s.now trail.old) }
-    ensures ready { Stays result (S.fits s.now) current.new trail.new }
+    ensures gives { OnOk result ((n : ℕ) → Leaves n (n + 1)
+        (trying (spec.each_paths (t.now ∷ more.entry.now) s.now) current.old s.now trail.old)
+        (ahead_of current.new s.now trail.new)) }
+    ensures ready { OnOk result (Ready (S.fits s.now) current.new trail.new) }
 {
-    let Ok(()) = keep_later(more, current, trail) else {
-        return Turn::Full;
+    keep_later(more, current, trail)?;
+    let [_, following @ ..] = t.nodes() else {
+        unreachable!()
     };
-    if let [_, following @ ..] = t.nodes() {
-        current.part = Part::Nodes(following);
-        s.skip(&mut current.cursor, 1);
-    }
-    Turn::Go
+    current.part = Part::Nodes(following);
+    s.skip(&mut current.cursor, 1);
+    Ok(())
 }
 
 // The alternatives after one that is out.
@@ -197,7 +197,10 @@ fn read_turn<'t, S: StrDrive, L: Ledger>(
     if is_out(t, unit) {
         others_turn(more, unit, current, trail)
     } else {
-        met_turn(t, left_of(more, unit), s, current, trail)
+        match met_turn(t, left_of(more, unit), s, current, trail) {
+            Err(_) => Turn::Full,
+            Ok(()) => Turn::Go,
+        }
     }
 }
 
@@ -251,12 +254,7 @@ pub fn known_turn<'t, S: StrDrive>(
     ensures ready { OnOk result (Ready (S.fits s.now) current.new trail.new) }
 {
     match left_of(trees, Some(unit)) {
-        [] => Err(AllocError),
-        [t, others @ ..] => {
-            match met_turn(t, left_of(others, Some(unit)), s, current, trail) {
-                Turn::Go => Ok(()),
-                _ => Err(AllocError),
-            }
-        }
+        [] => unreachable!(),
+        [t, others @ ..] => met_turn(t, left_of(others, Some(unit)), s, current, trail),
     }
 }

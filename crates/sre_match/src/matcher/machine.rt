@@ -15,13 +15,12 @@ use crate::matcher::choices::go_back;
 use crate::matcher::frames::{drop_frame, frame_in};
 use crate::matcher::iterations::{once_turn, optional_turn, rep_turn};
 use crate::matcher::nodes::nodes_turn;
-use crate::matcher::singles::{is_single, met_at};
 use crate::matcher::subject::Subject;
 use crate::matcher::trail::{Current, Part, Task, Trail, Turn, clear};
 use crate::matcher::turns::{back_turn, end_group_turn, leave};
 use crate::view::{StrDrive, StringCursor};
 use py_base::Steps;
-use sre_code::{Node, Tree};
+use sre_code::Tree;
 use std::alloc::AllocError;
 use std::sync::ledger::Ledger;
 
@@ -185,49 +184,6 @@ fn next_turn<'t, S: StrDrive, L: Ledger>(
     }
 }
 
-// Where a tree begins at a cursor. A first node that is one unit is read at once; none says that it
-// is not met. Only `pymatch` gets here with such a node: a search has tested its unit before.
-fn first_current<'t, S: StrDrive, L: Ledger>(
-    nodes: &'t [Node],
-    s: &Subject<'_, S>,
-    cursor: &StringCursor,
-    steps: &mut Steps<L>,
-) -> Option<Current<'t>>
-    requires fits { S.fits s.now cursor.now ≡ true }
-    requires counter { S.counts L.name }
-    ensures begins { IfSome result (λ current. Leaves steps.old steps.new
-        (paths (tree_of nodes.entry.now) s.now cursor.now.place [])
-        (part_next current.part s.now current.cursor.place [])) }
-    ensures rest { IfSome result (λ current. current.rest ≡ 0) }
-    ensures fits { IfSome result (λ current. S.fits s.now current.cursor ≡ true) }
-    ensures fails { result ≡ None → Leaves steps.old steps.new
-        (paths (tree_of nodes.entry.now) s.now cursor.now.place []) [] }
-{
-    let whole = Current {
-        part: Part::Nodes(nodes),
-        rest: 0,
-        cursor: *cursor,
-    };
-    match nodes {
-        [] => Some(whole),
-        [node, more @ ..] => {
-            if !is_single(node) {
-                return Some(whole);
-            }
-            if !met_at(node, s, cursor, steps) {
-                return None;
-            }
-            let mut following = *cursor;
-            s.skip(&mut following, 1);
-            Some(Current {
-                part: Part::Nodes(more),
-                rest: 0,
-                cursor: following,
-            })
-        }
-    }
-}
-
 /// The end of the first allowed outcome of what is to be tried. The trail then has its marks.
 pub fn run_from<'t, S: StrDrive, L: Ledger>(
     current: Current<'t>,
@@ -275,11 +231,11 @@ pub fn find_at<'t, S: StrDrive, L: Ledger>(
         ≡ first_allowed tree.now s.now start.now.place (allowed_by ends)) }
     ensures cost { steps.new ≤ steps.old + reads tree.now s.now start.now.place (allowed_by ends) }
 {
-    match first_current(tree.nodes(), s, start, steps) {
-        None => Ok(None),
-        Some(current) => {
-            clear(trail);
-            run_from(current, trail, s, start.place, ends, steps)
-        }
-    }
+    clear(trail);
+    let current = Current {
+        part: Part::Nodes(tree.nodes()),
+        rest: 0,
+        cursor: *start,
+    };
+    run_from(current, trail, s, start.place, ends, steps)
 }
