@@ -12,8 +12,8 @@ use Rattle.sre_match.proofs.LessLemmas.{leaves_then, leaves_is}
 use Rattle.sre_match.proofs.ScanLemmas.{first_left, left_some}
 use Rattle.sre_match.proofs.matcher.branches.known_turn.Goals as goal
 
-pub returns-in-len1-up-clause-gives : goal.returns-in-len1-up-clause-gives
-returns-in-len1-up-clause-gives g c = on_ok c.met_turn.result
+pub returns-clause-gives : goal.returns-clause-gives
+returns-clause-gives g c = on_ok c.met_turn.result
     (λ given n.
     let s = c.args.s.now in
     let p = c.args.current.now.cursor.place in

@@ -1,5 +1,5 @@
 use Rattle.sre_match.specs.Captures.{captures}
-use Rattle.std.proofs.Common.{◌≡◌, sym, ap, ◌∙◌, ◌++◌, ◌∷◌, ◌+◌}
+use Rattle.std.proofs.Common.{◌≡◌, sym, ap, ◌∙◌, ◌++◌, ◌∷◌, ◌+◌, arith}
 use Rattle.sre_match.specs.declared.matcher.trail.Turn.TheVariants.{Go}
 use Rattle.sre_match.specs.Machine.{run, to_try}
 use Rattle.sre_match.specs.Attempts.{after, Next}
