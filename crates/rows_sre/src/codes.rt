@@ -84,9 +84,9 @@ const NO_CODES: [(&[u32], usize); 24] = [
 #[test]
 fn no_codes(rt: HostRuntime) {
     for (words, groups) in &NO_CODES {
-        let refused = decode(rt.alloc(), words, *groups).err();
+        let error = decode(rt.alloc(), words, *groups).err();
         assert_eq!(rt;
-            refused,
+            error,
             Some(CodeError::InvalidCode),
             "{words:?} for {groups}"
         );

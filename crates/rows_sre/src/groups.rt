@@ -32,15 +32,15 @@ fn searched(alloc: Global, code: &Checked, subject: &[u8]) -> Result<State, Matc
     searched_by::<Brand>(alloc, code, subject, Blank::new(1))
 }
 
-// The span of group 1, and the group that was closed last.
-type Closings = (Option<(usize, usize)>, Option<usize>);
+// The span of group 1, and the group that was captured last.
+type Captures = (Option<(usize, usize)>, Option<usize>);
 
-fn closings(marks: &Marks) -> Closings {
+fn captures(marks: &Marks) -> Captures {
     (marks.get(1), marks.last_index())
 }
 
 // A code, its groups, a subject, and the first group's span and `lastindex` in CPython.
-const ROWS: [(&[u32], usize, &[u8], Closings); 4] = [
+const ROWS: [(&[u32], usize, &[u8], Captures); 4] = [
     // `a` in `ba`
     (&[16, 97, 1], 0, b"ba", (None, None)),
     // `(a)|b` in `a` and in `b`
@@ -73,7 +73,7 @@ fn groups(rt: HostRuntime) -> Result<(), Fail> {
         let code = decode(rt.alloc(), words, *groups)?;
         let state = searched(rt.alloc(), &code, subject)?;
         assert_eq!(rt;
-            closings(state.marks()),
+            captures(state.marks()),
             *wanted,
             "{words:?} in {subject:?}"
         );

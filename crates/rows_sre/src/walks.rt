@@ -1,10 +1,11 @@
 //! The spans of a subject, one after another.
 
-ghost use Rattle.std.specs.Prelude.{◌≡◌, ◌<◌};
+ghost use Rattle.std.specs.Prelude.{◌≡◌, ◌<◌, false};
 
 use py_base::Steps;
+use py_text::PyStr;
 use sre_code::{Checked, decode};
-use sre_match::{ByteView, MatchError, Request, SearchIter};
+use sre_match::{ByteView, MatchError, Request, SearchIter, StrDrive, TextView};
 use std::alloc::Global;
 use std::marker::Brand;
 use std::sync::ledger::{Blank, Ledger};
@@ -12,7 +13,28 @@ use std::test::Fail;
 
 type Spans = Vec<(usize, usize)>;
 
-// The spans of a subject, at most eight, over a new counter of steps.
+// The spans of a request, at most eight.
+fn spans_of<S: StrDrive, L: Ledger>(
+    alloc: Global,
+    request: Request<'_, S>,
+    steps: &mut Steps<L>,
+) -> Result<Spans, MatchError>
+    requires counter { S.counts L.name }
+    requires whole { request.whole ≡ false }
+    requires advance { request.advance ≡ false }
+{
+    let mut walk = SearchIter::new(alloc, request);
+    let mut spans = Vec::new(alloc);
+    for _ in 0..8 {
+        if !walk.next(steps)? {
+            break;
+        }
+        spans.push((walk.state().start(), walk.state().position()))?;
+    }
+    Ok(spans)
+}
+
+// Those of bytes, over a new counter of steps.
 fn spans_by<L: Ledger>(
     alloc: Global,
     code: &Checked,
@@ -25,19 +47,31 @@ fn spans_by<L: Ledger>(
 {
     let mut steps = Steps::<L>::new(blank);
     let request = Request::new(ByteView::new(subject), 0, subject.len(), code, false);
-    let mut walk = SearchIter::new(alloc, request);
-    let mut spans = Vec::new(alloc);
-    for _ in 0..8 {
-        if !walk.next(&mut steps)? {
-            break;
-        }
-        spans.push((walk.state().start(), walk.state().position()))?;
-    }
-    Ok(spans)
+    spans_of(alloc, request, &mut steps)
 }
 
 fn spans(alloc: Global, code: &Checked, subject: &[u8]) -> Result<Spans, MatchError> {
     spans_by::<Brand>(alloc, code, subject, Blank::new(1))
+}
+
+// Those of a text, over a new counter of steps.
+fn text_spans_by<L: Ledger>(
+    alloc: Global,
+    code: &Checked,
+    subject: &PyStr,
+    blank: Blank,
+) -> Result<Spans, MatchError>
+    requires name { blank.name ≡ L.name }
+    requires parts { blank.parts ≡ L.parts }
+    requires some { 0 < L.parts }
+{
+    let mut steps = Steps::<L>::new(blank);
+    let request = Request::new(TextView::new(subject), 0, subject.len(), code, false);
+    spans_of(alloc, request, &mut steps)
+}
+
+fn text_spans(alloc: Global, code: &Checked, subject: &PyStr) -> Result<Spans, MatchError> {
+    text_spans_by::<Brand>(alloc, code, subject, Blank::new(1))
 }
 
 // A code, a subject, and the spans that repeated calls of `scanner.search` give in CPython.
@@ -81,5 +115,15 @@ fn walks(rt: HostRuntime) -> Result<(), Fail> {
         let found = spans(rt.alloc(), &code, subject)?;
         assert_eq!(rt; found.as_slice(), *wanted, "{words:?} in {subject:?}");
     }
+    Ok(())
+}
+
+// `[\W]{1,3}`, which a letter past 255 does not meet.
+#[test]
+fn letters_past_a_byte(rt: HostRuntime) -> Result<(), Fail> {
+    let code = decode(rt.alloc(), &[24, 9, 1, 3, 13, 4, 8, 15, 0, 1, 1], 0)?;
+    let subject = PyStr::copy_of(rt.alloc(), "Āa… —“Āb")?;
+    let found = text_spans(rt.alloc(), &code, &subject)?;
+    assert_eq!(rt; found.as_slice(), &[(2, 5), (5, 6)]);
     Ok(())
 }

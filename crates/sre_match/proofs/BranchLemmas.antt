@@ -20,7 +20,8 @@ use Rattle.sre_match.specs.Branches.{each_paths, begins_single, is_out, left_of,
 use Rattle.sre_match.specs.Machine.{part_next, onward, Frames, wrap, pile, to_try, Leaves}
 use Rattle.sre_match.proofs.AfterLemmas.{IsFull, IsTotal, append_full, after_full, after-append, after-charge, charge_append}
 use Rattle.sre_match.proofs.FullLemmas.{full}
-use Rattle.sre_match.proofs.TurnLemmas.{to_try_charge, tree_split}
+use Rattle.sre_match.proofs.LessLemmas.{cost_charge}
+use Rattle.sre_match.proofs.TurnLemmas.{to_try_charge}
 
 pub thin_refl : (xs : List Attempt) → Thin xs xs
 thin_refl [] = refl
@@ -182,6 +183,19 @@ charge_out s t xs ys f k h =
     let out = to_try_charge s t 1 (after xs f ++ after ys f) both in
     (ap (to_try s t) (after-append (charge 1 xs) ys f ∙ ap (λ l. l ++ after ys f) (after-charge 1 xs f k) ∙ sym (charge_append 1 (after xs f) (after ys f) more)) ∙ out.0, out.1)
 
+-- so its read is paid for
+pub met_paid : (ok : ℕ → Bool) (s : List ℕ) (t : Trail) (x : PlainTree) (p : ℕ) (m : Marks) (ys : List Attempt) (f : Next) → IsTotal f → begins_single x ≡ true → is_out x (slice_get s p) ≡ false
+    → 1 ≤ cost_of ok (to_try s t (after (paths x s p m ++ ys) f))
+met_paid ok s t x p m ys f k h o =
+    let some = met_some x s p m (slice_get s p) refl h o in
+    let out = charge_out s t some.0 ys f k some.2 in
+    omega (arith, ap (λ l. cost_of ok (to_try s t (after (l ++ ys) f))) some.1, ap (cost_of ok) out.0, cost_charge ok 1 (to_try s t (after some.0 f ++ after ys f)) out.1)
+
+-- such an alternative has a node
+pub begins_some : (ns : List Node) (t : PlainTree) → tree_of ns ≡ t → begins_single t ≡ true → 1 ≤ length ns
+begins_some [] t e h = absurd (false≢true (ap begins_single e ∙ h))
+begins_some (n ∷ ns) t e h = omega arith
+
 -- a list by its first item and the rest
 pub list_split : (ts : List PlainTree) (t : PlainTree) → 1 ≤ length ts → t ≡ get_or ts 0 t → ts ≡ t ∷ take (length ts - 1) (drop 1 ts)
 list_split [] t h e = let f : ⊥ = omega (arith, h) in absurd f
@@ -195,12 +209,3 @@ is_nil (x ∷ xs) h = let f : ⊥ = omega (arith, h) in absurd f
 
 pub is_cons : {X : Type 0} (xs : List X) → 1 ≤ length xs → xs ≡ [] → ⊥
 is_cons xs h e = let f : ⊥ = omega (arith, h, ap length e) in f
-
--- a list of nodes of which the first one is a unit that is met
-pub nodes_met : (ns : List Node) (n : Node) (s : List ℕ) (p : ℕ) (m : Marks) → 1 ≤ length ns → n ≡ get_or ns 0 n → is_single (node_of n) ≡ true → met_at (meets (node_of n)) s p ≡ true
-    → paths (tree_of ns) s p m ≡ charge 1 (paths (tree_of (take (length ns - 1) (drop 1 ns))) s (p + 1) m)
-nodes_met ns n s p m l e h o =
-    let more : PlainTree = tree_of (take (length ns - 1) (drop 1 ns)) in
-    ap (λ t. paths t s p m) (tree_split ns n l e)
-    ∙ ap (λ l. after l (paths more s)) (single_paths (node_of n) s p m h ∙ ap (λ b. attempt b 1 (p + 1) m) o)
-    ∙ append-nil (charge 1 (paths more s (p + 1) m))

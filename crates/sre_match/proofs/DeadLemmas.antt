@@ -10,8 +10,8 @@ use Rattle.sre_match.specs.Paths.{paths, node_paths, all_paths, attempt}
 use Rattle.sre_match.specs.Anchors.{is_met, met_at}
 use Rattle.sre_match.specs.Repeats.{repeat_paths, room}
 use Rattle.sre_match.specs.Singles.{is_single, meets}
-use Rattle.sre_match.specs.Leads.{Within, node_leads, leads, all_lead}
-use Rattle.sre_match.specs.Laws.{LedPlacesFail, EarlyPlacesFail, RuledOut}
+use Rattle.sre_match.specs.FirstUnit.{MeetsOnly, node_reads_first, reads_first, all_read_first}
+use Rattle.sre_match.specs.Laws.{UnmetFirstUnitFails, EarlyPlacesFail, RuledOut}
 use Rattle.sre_match.specs.Matches.{is_allowed}
 use Rattle.sre_match.proofs.NextSpanLemmas.{first_within, reads_there}
 use Rattle.sre_match.proofs.BranchLemmas.{single_paths}
@@ -84,7 +84,7 @@ outside : (test f : ℕ → Bool) (u : Option ℕ) → ((c : ℕ) → test c ≡
 outside test f None h e = refl
 outside test f (Some c) h e = not_both (test c) (f c) (h c) e
 
-single_dead : (n : PlainNode) (k : ℕ) (f : ℕ → Bool) (s : List ℕ) (p : ℕ) (m : Marks) → is_single n ≡ true → (k ≡ 0) × Within n f → is_met f (slice_get s (p - k)) ≡ false → Dead 1 (node_paths n s p m)
+single_dead : (n : PlainNode) (k : ℕ) (f : ℕ → Bool) (s : List ℕ) (p : ℕ) (m : Marks) → is_single n ≡ true → (k ≡ 0) × MeetsOnly n f → is_met f (slice_get s (p - k)) ≡ false → Dead 1 (node_paths n s p m)
 single_dead n k f s p m h w e =
     let here : p - k ≡ p = omega (arith, w.0) in
     let o : met_at (meets n) s p ≡ false = outside (meets n) f (slice_get s p) w.1 (ap (λ q. is_met f (slice_get s q)) (sym here) ∙ e) in
@@ -111,7 +111,7 @@ look_dead n j b s p m l h =
     h
 
 mutual
-  node_dead : (n : PlainNode) (k : ℕ) (f : ℕ → Bool) (s : List ℕ) (p : ℕ) (m : Marks) → node_leads n k f → k ≤ p → is_met f (slice_get s (p - k)) ≡ false → Dead 1 (node_paths n s p m)
+  node_dead : (n : PlainNode) (k : ℕ) (f : ℕ → Bool) (s : List ℕ) (p : ℕ) (m : Marks) → node_reads_first n k f → k ≤ p → is_met f (slice_get s (p - k)) ≡ false → Dead 1 (node_paths n s p m)
   node_dead fail k f s p m h l e = absurd h
   node_dead any k f s p m h l e = single_dead any k f s p m refl h e
   node_dead any_all k f s p m h l e = single_dead any_all k f s p m refl h e
@@ -136,21 +136,21 @@ mutual
       look_dead 1 j b s p m (omega (arith, h.1, l)) (dead b i f s (p - j) m h.2 (omega (arith, h.1, l)) (ap (λ q. is_met f (slice_get s q)) here ∙ e))
   node_dead (look false j b) k f s p m h l e = absurd h
 
-  -- a tree fails where its first read is of no unit that may lead
-  pub dead : (t : PlainTree) (k : ℕ) (f : ℕ → Bool) (s : List ℕ) (p : ℕ) (m : Marks) → leads t k f → k ≤ p → is_met f (slice_get s (p - k)) ≡ false → Dead 1 (paths t s p m)
+  -- a tree fails where the unit that it reads first fails the test
+  pub dead : (t : PlainTree) (k : ℕ) (f : ℕ → Bool) (s : List ℕ) (p : ℕ) (m : Marks) → reads_first t k f → k ≤ p → is_met f (slice_get s (p - k)) ≡ false → Dead 1 (paths t s p m)
   dead nothing k f s p m h l e = absurd h
   dead (n then t) k f s p m h l e =
       let d : Dead 1 (node_paths n s p m) = node_dead n k f s p m h l e in
       dead_is 1 (node_paths n s p m) _ (fail_after (node_paths n s p m) (paths t s) d.0) d
 
-  all_dead : (ts : PlainTrees) (k : ℕ) (f : ℕ → Bool) (s : List ℕ) (p : ℕ) (m : Marks) → all_lead ts k f → k ≤ p → is_met f (slice_get s (p - k)) ≡ false → Dead 1 (all_paths ts s p m)
+  all_dead : (ts : PlainTrees) (k : ℕ) (f : ℕ → Bool) (s : List ℕ) (p : ℕ) (m : Marks) → all_read_first ts k f → k ≤ p → is_met f (slice_get s (p - k)) ≡ false → Dead 1 (all_paths ts s p m)
   all_dead (only t) k f s p m h l e = dead t k f s p m h l e
   all_dead (t or ts) k f s p m h l e =
       let d : Dead 1 (paths t s p m) = dead t k f s p m h.0 l e in
       let r : Dead 1 (all_paths ts s p m) = all_dead ts k f s p m h.1 l e in
       (fail_append (paths t s p m) (all_paths ts s p m) d.0 r.0, omega (arith, d.1, spent_append (paths t s p m) (all_paths ts s p m)))
 
-look_early : (j : ℕ) (b : PlainTree) (k : ℕ) (f : ℕ → Bool) (s : List ℕ) (p : ℕ) (m : Marks) (x : Bool) → nat_lt p j ≡ x → (h : (i : ℕ) × (k ≡ j + i) × leads b i f) → p < k → (p - j < h.0 → Dead 0 (paths b s (p - j) m)) → Dead 0 (node_paths (look true j b) s p m)
+look_early : (j : ℕ) (b : PlainTree) (k : ℕ) (f : ℕ → Bool) (s : List ℕ) (p : ℕ) (m : Marks) (x : Bool) → nat_lt p j ≡ x → (h : (i : ℕ) × (k ≡ j + i) × reads_first b i f) → p < k → (p - j < h.0 → Dead 0 (paths b s (p - j) m)) → Dead 0 (node_paths (look true j b) s p m)
 look_early j b k f s p m true e h l d =
     dead_is 0 (failed 0 ∷ []) _ (ap (λ (x : Bool). elim x as (λ _. List Attempt) [ true ↦ failed 0 ∷ [] | false ↦ back_to p (cut (paths b s (p - j) m)) ]) e) (tt, omega arith)
 look_early j b k f s p m false e h l d =
@@ -158,7 +158,7 @@ look_early j b k f s p m false e h l d =
     look_dead 0 j b s p m w (d (omega (arith, h.1, l, w)))
 
 mutual
-  node_early : (n : PlainNode) (k : ℕ) (f : ℕ → Bool) (s : List ℕ) (p : ℕ) (m : Marks) → node_leads n k f → p < k → Dead 0 (node_paths n s p m)
+  node_early : (n : PlainNode) (k : ℕ) (f : ℕ → Bool) (s : List ℕ) (p : ℕ) (m : Marks) → node_reads_first n k f → p < k → Dead 0 (node_paths n s p m)
   node_early fail k f s p m h l = absurd h
   node_early any k f s p m h l = let x : ⊥ = omega (arith, h.0, l) in absurd x
   node_early any_all k f s p m h l = let x : ⊥ = omega (arith, h.0, l) in absurd x
@@ -181,21 +181,21 @@ mutual
   node_early (look false j b) k f s p m h l = absurd h
 
   -- and where that is before the subject
-  pub early : (t : PlainTree) (k : ℕ) (f : ℕ → Bool) (s : List ℕ) (p : ℕ) (m : Marks) → leads t k f → p < k → Dead 0 (paths t s p m)
+  pub early : (t : PlainTree) (k : ℕ) (f : ℕ → Bool) (s : List ℕ) (p : ℕ) (m : Marks) → reads_first t k f → p < k → Dead 0 (paths t s p m)
   early nothing k f s p m h l = absurd h
   early (n then t) k f s p m h l =
       let d : Dead 0 (node_paths n s p m) = node_early n k f s p m h l in
       dead_is 0 (node_paths n s p m) _ (fail_after (node_paths n s p m) (paths t s) d.0) d
 
-  all_early : (ts : PlainTrees) (k : ℕ) (f : ℕ → Bool) (s : List ℕ) (p : ℕ) (m : Marks) → all_lead ts k f → p < k → Dead 0 (all_paths ts s p m)
+  all_early : (ts : PlainTrees) (k : ℕ) (f : ℕ → Bool) (s : List ℕ) (p : ℕ) (m : Marks) → all_read_first ts k f → p < k → Dead 0 (all_paths ts s p m)
   all_early (only t) k f s p m h l = early t k f s p m h l
   all_early (t or ts) k f s p m h l =
       let d : Dead 0 (paths t s p m) = early t k f s p m h.0 l in
       let r : Dead 0 (all_paths ts s p m) = all_early ts k f s p m h.1 l in
       (fail_append (paths t s p m) (all_paths ts s p m) d.0 r.0, omega arith)
 
-pub led_places_fail : LedPlacesFail
-led_places_fail t k f s p m ok h l e =
+pub unmet_first_unit_fails : UnmetFirstUnitFails
+unmet_first_unit_fails t k f s p m ok h l e =
     let d : Dead 1 (paths t s p m) = dead t k f s p m h l e in
     (fail_chosen ok (paths t s p m) d.0, omega (arith, d.1, fail_cost ok (paths t s p m) d.0))
 
@@ -204,5 +204,5 @@ early_places_fail t k f s p m ok h l = fail_chosen ok (paths t s p m) (early t k
 
 pub ruled_out : RuledOut
 ruled_out t k f s i a h l le e =
-    let r = led_places_fail t k f s i [] (is_allowed s i a) h l e in
+    let r = unmet_first_unit_fails t k f s i [] (is_allowed s i a) h l e in
     (first_within t s i a le ∙ r.0, omega (arith, r.1, reads_there t s i a le))

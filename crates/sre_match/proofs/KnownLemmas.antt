@@ -3,13 +3,13 @@ use Rattle.sre_match.specs.Captures.{captures}
 use Rattle.std.proofs.Common.{◌≡◌, sym, ap, ◌∙◌, ℕ, ◌+◌, ◌≤◌, true, List, [], ◌∷◌, length, arith}
 use Rattle.std.proofs.lemmas.List.{append-nil}
 use Rattle.std.specs.Prelude.{Some, slice_get}
-use Rattle.sre_match.specs.declared.matcher.leads.Lead.{Lead}
+use Rattle.sre_match.specs.declared.matcher.first_unit.FirstUnit.{FirstUnit}
 use Rattle.sre_match.specs.declared.matcher.trail.Current.{Current}
 use Rattle.sre_match.specs.declared.matcher.trail.Trail.{Trail}
 use Rattle.sre_code.specs.PlainTree.{PlainNode, PlainTree, ◌then◌}
 use Rattle.sre_match.specs.Attempts.{Attempt, Marks, Next, after, charge}
 use Rattle.sre_match.specs.Anchors.{met_at}
-use Rattle.sre_match.specs.Leads.{lead_tree, Begins, may_lead}
+use Rattle.sre_match.specs.FirstUnit.{first_unit_tree, Begins, meets_first}
 use Rattle.sre_match.specs.Machine.{onward, run, to_try, pile, trying, Leaves}
 use Rattle.sre_match.specs.Matches.{Allowed, reads, is_allowed}
 use Rattle.sre_match.specs.Paths.{paths, attempt}
@@ -19,8 +19,8 @@ use Rattle.sre_match.proofs.BranchLemmas.{single_paths}
 use Rattle.sre_match.proofs.FullLemmas.{full}
 use Rattle.sre_match.proofs.LessLemmas.{leaves_charge}
 use Rattle.sre_match.proofs.NextSpanLemmas.{reads_there}
-use Rattle.sre_match.proofs.PaidLemmas.{led_trees_read}
-use Rattle.sre_match.proofs.ScanLemmas.{lead_leads}
+use Rattle.sre_match.proofs.PaidLemmas.{first_unit_costs_a_read}
+use Rattle.sre_match.proofs.ScanLemmas.{tree_reads_first_unit}
 use Rattle.sre_match.proofs.TurnLemmas.{run_full, to_try_charge}
 
 -- a first node that is met costs its read
@@ -45,6 +45,6 @@ begins_with f a s t mm ff cc r =
     ∙ after_stay (f a.cursor.place [])
 
 -- the first read is paid for
-pub lead_reads : (l : Lead) (s : List ℕ) (i : ℕ) (a : Allowed) → Begins l → i ≤ length s → 1 ≤ reads (lead_tree l) s i a
-lead_reads l s i a h le =
-    omega (arith, led_trees_read (lead_tree l) 0 (may_lead l) s i [] (is_allowed s i a) (lead_leads l h) (omega arith), reads_there (lead_tree l) s i a le)
+pub first_read_paid : (l : FirstUnit) (s : List ℕ) (i : ℕ) (a : Allowed) → Begins l → i ≤ length s → 1 ≤ reads (first_unit_tree l) s i a
+first_read_paid l s i a h le =
+    omega (arith, first_unit_costs_a_read (first_unit_tree l) 0 (meets_first l) s i [] (is_allowed s i a) (tree_reads_first_unit l h) (omega arith), reads_there (first_unit_tree l) s i a le)

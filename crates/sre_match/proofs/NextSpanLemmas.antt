@@ -6,7 +6,7 @@ use Rattle.sre_match.specs.Attempts.{Marks, chosen, cost_of}
 use Rattle.sre_match.specs.Paths.{paths}
 use Rattle.std.proofs.lemmas.List.{length-take-le}
 use Rattle.sre_match.specs.Search.{Search}
-use Rattle.sre_match.specs.Matches.{Span, Allowed, later, span_at, span_or, is_allowed, first_allowed, reads, next_within, next_span, cost_or, reads_within, next_reads}
+use Rattle.sre_match.specs.Matches.{Span, Allowed, at_later_places, span_at, span_or, is_allowed, first_allowed, reads, next_within, next_span, cost_or, reads_within, next_reads}
 
 lt_true : (a b : ℕ) → a < b → ltb a b ≡ true
 lt_true a b lt = at (ltb a b) refl
@@ -43,48 +43,48 @@ unfolding next_within
 next_past t s q a past = let none : length s + 1 - q ≡ 0 = omega arith in rw none refl
 
 -- one place, and then the later ones
-pub next_step : (t : PlainTree) (s : List ℕ) (q : ℕ) (a : Allowed) → q ≤ length s → next_span t s q a ≡ span_or q (first_allowed t s q a) (next_span t s (q + 1) (later a))
+pub next_step : (t : PlainTree) (s : List ℕ) (q : ℕ) (a : Allowed) → q ≤ length s → next_span t s q a ≡ span_or q (first_allowed t s q a) (next_span t s (q + 1) (at_later_places a))
 unfolding next_within
 next_step t s q a le =
     let one : length s + 1 - q ≡ suc (length s + 1 - (q + 1)) = omega arith in
     ap (λ (n : ℕ). next_within n t s q a) one
 
 pub next_found : (t : PlainTree) (s : List ℕ) (q : ℕ) (a : Allowed) (o : ℕ × Marks) → q ≤ length s → Some o ≡ first_allowed t s q a → Some (span_at q o) ≡ next_span t s q a
-next_found t s q a o le e = sym (next_step t s q a le ∙ ap (λ (x : Option (ℕ × Marks)). span_or q x (next_span t s (q + 1) (later a))) (sym e))
+next_found t s q a o le e = sym (next_step t s q a le ∙ ap (λ (x : Option (ℕ × Marks)). span_or q x (next_span t s (q + 1) (at_later_places a))) (sym e))
 
-pub next_on : (t : PlainTree) (s : List ℕ) (q : ℕ) (a : Allowed) → q ≤ length s → None ≡ first_allowed t s q a → next_span t s (q + 1) (later a) ≡ next_span t s q a
-next_on t s q a le e = sym (next_step t s q a le ∙ ap (λ (x : Option (ℕ × Marks)). span_or q x (next_span t s (q + 1) (later a))) (sym e))
+pub next_on : (t : PlainTree) (s : List ℕ) (q : ℕ) (a : Allowed) → q ≤ length s → None ≡ first_allowed t s q a → next_span t s (q + 1) (at_later_places a) ≡ next_span t s q a
+next_on t s q a le e = sym (next_step t s q a le ∙ ap (λ (x : Option (ℕ × Marks)). span_or q x (next_span t s (q + 1) (at_later_places a))) (sym e))
 
 -- what is read at one place, and then at the later ones
-reads_step : (t : PlainTree) (s : List ℕ) (q : ℕ) (a : Allowed) → q ≤ length s → next_reads t s q a ≡ cost_or (reads t s q a) (first_allowed t s q a) (next_reads t s (q + 1) (later a))
+reads_step : (t : PlainTree) (s : List ℕ) (q : ℕ) (a : Allowed) → q ≤ length s → next_reads t s q a ≡ cost_or (reads t s q a) (first_allowed t s q a) (next_reads t s (q + 1) (at_later_places a))
 unfolding reads_within
 reads_step t s q a le =
     let one : length s + 1 - q ≡ suc (length s + 1 - (q + 1)) = omega arith in
     ap (λ (n : ℕ). reads_within n t s q a) one
 
-pub reads_on : (t : PlainTree) (s : List ℕ) (q : ℕ) (a : Allowed) → q ≤ length s → None ≡ first_allowed t s q a → next_reads t s q a ≡ reads t s q a + next_reads t s (q + 1) (later a)
+pub reads_on : (t : PlainTree) (s : List ℕ) (q : ℕ) (a : Allowed) → q ≤ length s → None ≡ first_allowed t s q a → next_reads t s q a ≡ reads t s q a + next_reads t s (q + 1) (at_later_places a)
 reads_on t s q a le e =
-    reads_step t s q a le ∙ ap (λ (x : Option (ℕ × Marks)). cost_or (reads t s q a) x (next_reads t s (q + 1) (later a))) (sym e)
+    reads_step t s q a le ∙ ap (λ (x : Option (ℕ × Marks)). cost_or (reads t s q a) x (next_reads t s (q + 1) (at_later_places a))) (sym e)
 
-cost_here : (o : Option (ℕ × Marks)) (here later : ℕ) → here ≤ cost_or here o later
-cost_here None here later = omega arith
-cost_here (Some x) here later = omega arith
+cost_here : (o : Option (ℕ × Marks)) (here rest : ℕ) → here ≤ cost_or here o rest
+cost_here None here rest = omega arith
+cost_here (Some x) here rest = omega arith
 
 pub reads_here : (t : PlainTree) (s : List ℕ) (q : ℕ) (a : Allowed) → q ≤ length s → reads t s q a ≤ next_reads t s q a
 reads_here t s q a le =
-    omega (arith, reads_step t s q a le, cost_here (first_allowed t s q a) (reads t s q a) (next_reads t s (q + 1) (later a)))
+    omega (arith, reads_step t s q a le, cost_here (first_allowed t s q a) (reads t s q a) (next_reads t s (q + 1) (at_later_places a)))
 
 -- more places change nothing
 none_past : (n : ℕ) (t : PlainTree) (s : List ℕ) (i : ℕ) (a : Allowed) → length s < i → next_within n t s i a ≡ None
 unfolding next_within
 none_past zero t s i a past = refl
-none_past (suc n) t s i a past = rw (first_past t s i a past) (none_past n t s (i + 1) (later a) (omega arith))
+none_past (suc n) t s i a past = rw (first_past t s i a past) (none_past n t s (i + 1) (at_later_places a) (omega arith))
 
 pub more_places : (n k : ℕ) (t : PlainTree) (s : List ℕ) (i : ℕ) (a : Allowed) → k ≡ length s + 1 - i → k ≤ n → next_within n t s i a ≡ next_within k t s i a
 unfolding next_within
 more_places n zero t s i a is le = none_past n t s i a (omega (arith, is))
 more_places zero (suc k) t s i a is le = absurd (omega arith)
-more_places (suc n) (suc k) t s i a is le = ap (λ (x : Option Span). span_or i (first_allowed t s i a) x) (more_places n k t s (i + 1) (later a) (omega (arith, is)) (omega arith))
+more_places (suc n) (suc k) t s i a is le = ap (λ (x : Option Span). span_or i (first_allowed t s i a) x) (more_places n k t s (i + 1) (at_later_places a) (omega (arith, is)) (omega arith))
 
 -- the subject is as long as its end
 pub subject_length : (r : Search) (units : List ℕ) (end : ℕ) → take end units ≡ r.subject → end ≤ length units → length r.subject ≡ end

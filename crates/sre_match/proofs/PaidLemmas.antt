@@ -10,8 +10,8 @@ use Rattle.sre_match.specs.Paths.{paths, node_paths, all_paths, attempt}
 use Rattle.sre_match.specs.Anchors.{met_at}
 use Rattle.sre_match.specs.Repeats.{repeat_paths, room}
 use Rattle.sre_match.specs.Singles.{is_single, meets}
-use Rattle.sre_match.specs.Leads.{node_leads, leads, all_lead}
-use Rattle.sre_match.specs.Laws.{LedTreesRead}
+use Rattle.sre_match.specs.FirstUnit.{node_reads_first, reads_first, all_read_first}
+use Rattle.sre_match.specs.Laws.{FirstUnitCostsARead}
 use Rattle.sre_match.proofs.AfterLemmas.{IsTotal, IsFull}
 use Rattle.sre_match.proofs.BranchLemmas.{single_paths}
 use Rattle.sre_match.proofs.FullLemmas.{full, rep_full}
@@ -86,7 +86,7 @@ look_paid j b s p m l h =
     paid_is (back_to p (cut xs)) _ (ap (λ (x : Bool). elim x as (λ _. List Attempt) [ true ↦ failed 0 ∷ [] | false ↦ back_to p (cut (paths b s (p - j) m)) ]) (le-ltb p j l)) (paid_back p (cut xs) (paid_cut xs h))
 
 mutual
-  node_paid : (n : PlainNode) (k : ℕ) (f : ℕ → Bool) (s : List ℕ) (p : ℕ) (m : Marks) → node_leads n k f → k ≤ p → Paid (node_paths n s p m)
+  node_paid : (n : PlainNode) (k : ℕ) (f : ℕ → Bool) (s : List ℕ) (p : ℕ) (m : Marks) → node_reads_first n k f → k ≤ p → Paid (node_paths n s p m)
   node_paid fail k f s p m h l = absurd h
   node_paid any k f s p m h l = single_paid any s p m refl
   node_paid any_all k f s p m h l = single_paid any_all s p m refl
@@ -104,14 +104,14 @@ mutual
   node_paid (look true j b) k f s p m h l = look_paid j b s p m (omega (arith, h.1, l)) (paid b h.0 f s (p - j) m h.2 (omega (arith, h.1, l)))
   node_paid (look false j b) k f s p m h l = absurd h
 
-  -- a tree that leads pays for its first read
-  pub paid : (t : PlainTree) (k : ℕ) (f : ℕ → Bool) (s : List ℕ) (p : ℕ) (m : Marks) → leads t k f → k ≤ p → Paid (paths t s p m)
+  -- a tree that reads a unit first pays for that read
+  pub paid : (t : PlainTree) (k : ℕ) (f : ℕ → Bool) (s : List ℕ) (p : ℕ) (m : Marks) → reads_first t k f → k ≤ p → Paid (paths t s p m)
   paid nothing k f s p m h l = absurd h
   paid (n then t) k f s p m h l = paid_after (node_paths n s p m) (paths t s) (full t s) (node_paid n k f s p m h l)
 
-  all_paid : (ts : PlainTrees) (k : ℕ) (f : ℕ → Bool) (s : List ℕ) (p : ℕ) (m : Marks) → all_lead ts k f → k ≤ p → Paid (all_paths ts s p m)
+  all_paid : (ts : PlainTrees) (k : ℕ) (f : ℕ → Bool) (s : List ℕ) (p : ℕ) (m : Marks) → all_read_first ts k f → k ≤ p → Paid (all_paths ts s p m)
   all_paid (only t) k f s p m h l = paid t k f s p m h l
   all_paid (t or ts) k f s p m h l = paid_append (paths t s p m) (all_paths ts s p m) (paid t k f s p m h.0 l)
 
-pub led_trees_read : LedTreesRead
-led_trees_read t k f s p m ok h l = paid_cost ok (paths t s p m) (paid t k f s p m h l)
+pub first_unit_costs_a_read : FirstUnitCostsARead
+first_unit_costs_a_read t k f s p m ok h l = paid_cost ok (paths t s p m) (paid t k f s p m h l)

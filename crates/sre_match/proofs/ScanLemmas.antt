@@ -4,20 +4,20 @@ use Rattle.std.specs.Prelude.{not, ◌&&◌, Option, Some, None, slice_get}
 use Rattle.std.proofs.lemmas.Bool.{false≢true, eq-eqb, ne_eqb}
 use Rattle.sre_code.specs.PlainTree.{PlainNode, PlainTree, fail, any, any_all, lit, not_lit, one_of, at, group, ref, exists, exists_else, branch, repeat, atomic, look, nothing, ◌then◌}
 use Rattle.sre_code.specs.TreeView.{node_of, trees_of}
-use Rattle.sre_match.specs.declared.matcher.leads.Lead.{Lead}
-use Rattle.sre_match.specs.declared.matcher.leads.Lead.TheVariants.{One, Each}
+use Rattle.sre_match.specs.declared.matcher.first_unit.FirstUnit.{FirstUnit}
+use Rattle.sre_match.specs.declared.matcher.first_unit.FirstUnit.TheVariants.{Single, Alternatives}
 use Rattle.sre_match.specs.Anchors.{is_met}
 use Rattle.sre_match.specs.Attempts.{Marks}
 use Rattle.sre_match.specs.Branches.{begins_single, is_out, left_of}
-use Rattle.sre_match.specs.Leads.{Within, node_leads, leads, all_lead, all_single, any_left, lead_tree, Begins, may_lead, allowed_from, PassedOver}
-use Rattle.sre_match.specs.Matches.{Allowed, later, next_span, next_reads, first_allowed, reads, span_at}
+use Rattle.sre_match.specs.FirstUnit.{MeetsOnly, node_reads_first, reads_first, all_read_first, all_single, any_left, first_unit_tree, Begins, meets_first, allowed_from, PassedOver}
+use Rattle.sre_match.specs.Matches.{Allowed, at_later_places, next_span, next_reads, first_allowed, reads, span_at}
 use Rattle.sre_match.specs.Singles.{is_single, meets}
 use Rattle.sre_match.proofs.BranchLemmas.{is_cons}
 use Rattle.sre_match.proofs.DeadLemmas.{ruled_out}
 use Rattle.sre_match.proofs.NextSpanLemmas.{next_found, next_on, next_past, reads_on, reads_here}
 
--- a node that is one unit leads
-node_single : (n : PlainNode) (f : ℕ → Bool) → is_single n ≡ true → Within n f → node_leads n 0 f
+-- a node that is one unit is read first
+node_single : (n : PlainNode) (f : ℕ → Bool) → is_single n ≡ true → MeetsOnly n f → node_reads_first n 0 f
 node_single fail f h w = absurd (false≢true h)
 node_single any f h w = (refl, w)
 node_single any_all f h w = (refl, w)
@@ -40,9 +40,9 @@ out_met true false h = absurd (false≢true h)
 out_met false b h = refl
 
 -- so does a tree that begins with one
-tree_leads : (t : PlainTree) (f : ℕ → Bool) → begins_single t ≡ true → ((c : ℕ) → is_out t (Some c) ≡ false → f c ≡ true) → leads t 0 f
-tree_leads nothing f h w = absurd (false≢true h)
-tree_leads (n then t) f h w = node_single n f h (λ c e. w c (out_met (is_single n) (meets n c) e))
+tree_reads_first : (t : PlainTree) (f : ℕ → Bool) → begins_single t ≡ true → ((c : ℕ) → is_out t (Some c) ≡ false → f c ≡ true) → reads_first t 0 f
+tree_reads_first nothing f h w = absurd (false≢true h)
+tree_reads_first (n then t) f h w = node_single n f h (λ c e. w c (out_met (is_single n) (meets n c) e))
 
 pub both_single : (b x : Bool) → (elim b as (λ _. Bool) [ true ↦ x | false ↦ false ]) ≡ true → (b ≡ true) × (x ≡ true)
 both_single true x h = (refl, h)
@@ -57,19 +57,19 @@ left_more true t ts xs h = h
 left_more false t ts xs h = refl
 
 -- alternatives that each begin with one
-lead_all : (ts : List PlainTree) (f : ℕ → Bool) → (ts ≡ [] → ⊥) → all_single ts ≡ true → ((c : ℕ) → any_left (left_of ts (Some c)) ≡ true → f c ≡ true) → all_lead (trees_of ts) 0 f
-lead_all [] f n h w = absurd (n refl)
-lead_all (t ∷ []) f n h w =
-    tree_leads t f (both_single (begins_single t) true h).0 (λ c e. w c (left_first (is_out t (Some c)) t [] [] e))
-lead_all (t ∷ u ∷ ts) f n h w =
+alternatives_read_first : (ts : List PlainTree) (f : ℕ → Bool) → (ts ≡ [] → ⊥) → all_single ts ≡ true → ((c : ℕ) → any_left (left_of ts (Some c)) ≡ true → f c ≡ true) → all_read_first (trees_of ts) 0 f
+alternatives_read_first [] f n h w = absurd (n refl)
+alternatives_read_first (t ∷ []) f n h w =
+    tree_reads_first t f (both_single (begins_single t) true h).0 (λ c e. w c (left_first (is_out t (Some c)) t [] [] e))
+alternatives_read_first (t ∷ u ∷ ts) f n h w =
     let both = both_single (begins_single t) (all_single (u ∷ ts)) h in (
-      tree_leads t f both.0 (λ c e. w c (left_first (is_out t (Some c)) t (u ∷ ts) (left_of (u ∷ ts) (Some c)) e)),
-      lead_all (u ∷ ts) f (is_cons (u ∷ ts) (omega arith)) both.1 (λ c e. w c (left_more (is_out t (Some c)) t (u ∷ ts) (left_of (u ∷ ts) (Some c)) e)),
+      tree_reads_first t f both.0 (λ c e. w c (left_first (is_out t (Some c)) t (u ∷ ts) (left_of (u ∷ ts) (Some c)) e)),
+      alternatives_read_first (u ∷ ts) f (is_cons (u ∷ ts) (omega arith)) both.1 (λ c e. w c (left_more (is_out t (Some c)) t (u ∷ ts) (left_of (u ∷ ts) (Some c)) e)),
     )
 
-pub lead_leads : (l : Lead) → Begins l → leads (lead_tree l) 0 (may_lead l)
-lead_leads (One n more) h = node_single (node_of n.now) (may_lead (One n more)) h (λ c e. e)
-lead_leads (Each ts more) h = lead_all ts.now (may_lead (Each ts more)) h.1 h.0 (λ c e. e)
+pub tree_reads_first_unit : (l : FirstUnit) → Begins l → reads_first (first_unit_tree l) 0 (meets_first l)
+tree_reads_first_unit (Single n more) h = node_single (node_of n.now) (meets_first (Single n more)) h (λ c e. e)
+tree_reads_first_unit (Alternatives ts more) h = alternatives_read_first ts.now (meets_first (Alternatives ts more)) h.1 h.0 (λ c e. e)
 
 abbrev first_of : PlainTree → List PlainTree → PlainTree
 first_of x [] = x
@@ -82,6 +82,10 @@ head x t xs ts e = ap (first_of x) e
 pub left_some : (ts : List PlainTree) (u : Option ℕ) → any_left (left_of ts u) ≡ true → ts ≡ [] → ⊥
 left_some [] u h e = false≢true h
 left_some (t ∷ ts) u h e = let f : ⊥ = omega (arith, ap length e) in f
+
+pub none_left : (ts : List PlainTree) → length ts < 1 → any_left ts ≡ true → ⊥
+none_left [] l h = false≢true h
+none_left (t ∷ ts) l h = let f : ⊥ = omega (arith, l) in f
 
 left_head : (b : Bool) (x : PlainTree) (xs : List PlainTree) (u : Option ℕ) (t : PlainTree) (rest : List PlainTree) → is_out x u ≡ b → begins_single x ≡ true → (left_of xs u ≡ t ∷ rest → (begins_single t ≡ true) × (is_out t u ≡ false))
     → (elim b as (λ _. List PlainTree) [ true ↦ left_of xs u | false ↦ x ∷ xs ]) ≡ t ∷ rest → (begins_single t ≡ true) × (is_out t u ≡ false)
@@ -108,7 +112,7 @@ and_false false b h = refl
 allowed_here : (q : ℕ) (a : Allowed) → allowed_from q q a ≡ a
 allowed_here q a = ap (λ (b : Bool). record { advance = b; whole = a.whole }) (and_same a.advance q)
 
-allowed_on : (q p : ℕ) (a : Allowed) → q ≤ p → later (allowed_from q p a) ≡ allowed_from q (p + 1) a
+allowed_on : (q p : ℕ) (a : Allowed) → q ≤ p → at_later_places (allowed_from q p a) ≡ allowed_from q (p + 1) a
 allowed_on q p a le = ap (λ (b : Bool). record { advance = b; whole = a.whole }) (and_false a.advance (p + 1 == q) (ne_eqb (p + 1) q (λ e. omega (arith, e, le))))
 
 pub passed_none : (t : PlainTree) (s : List ℕ) (q : ℕ) (a : Allowed) → PassedOver t s q q a
@@ -118,12 +122,12 @@ passed_none t s q a = record {
 }
 
 -- a place that is ruled out
-out_here : (t : PlainTree) (f : ℕ → Bool) (s : List ℕ) (p : ℕ) (a : Allowed) → leads t 0 f → p ≤ length s → is_met f (slice_get s p) ≡ false → (first_allowed t s p a ≡ None) × (1 ≤ reads t s p a)
+out_here : (t : PlainTree) (f : ℕ → Bool) (s : List ℕ) (p : ℕ) (a : Allowed) → reads_first t 0 f → p ≤ length s → is_met f (slice_get s p) ≡ false → (first_allowed t s p a ≡ None) × (1 ≤ reads t s p a)
 out_here t f s p a h le e =
     let here : p - 0 ≡ p = omega arith in
     ruled_out t 0 f s p a h (omega arith) le (ap (λ i. is_met f (slice_get s i)) here ∙ e)
 
-pub passed_one : (t : PlainTree) (f : ℕ → Bool) (s : List ℕ) (q p : ℕ) (a : Allowed) → leads t 0 f → q ≤ p → p ≤ length s → is_met f (slice_get s p) ≡ false → PassedOver t s q p a → PassedOver t s q (p + 1) a
+pub passed_one : (t : PlainTree) (f : ℕ → Bool) (s : List ℕ) (q p : ℕ) (a : Allowed) → reads_first t 0 f → q ≤ p → p ≤ length s → is_met f (slice_get s p) ≡ false → PassedOver t s q p a → PassedOver t s q (p + 1) a
 passed_one t f s q p a h le within e was =
     let b : Allowed = allowed_from q p a in
     let r = out_here t f s p b h within e in
@@ -141,11 +145,11 @@ past_all (x ∷ s) zero e = cc e
 past_all (x ∷ s) (suc p) e = omega (arith, past_all s p e)
 
 -- where no unit is, no place is left
-pub passed_all : (t : PlainTree) (f : ℕ → Bool) (s : List ℕ) (q p : ℕ) (a : Allowed) → leads t 0 f → p ≤ length s → None ≡ slice_get s p → PassedOver t s q p a → (None ≡ next_span t s q a) × (p + 1 ≤ q + next_reads t s q a)
+pub passed_all : (t : PlainTree) (f : ℕ → Bool) (s : List ℕ) (q p : ℕ) (a : Allowed) → reads_first t 0 f → p ≤ length s → None ≡ slice_get s p → PassedOver t s q p a → (None ≡ next_span t s q a) × (p + 1 ≤ q + next_reads t s q a)
 passed_all t f s q p a h within e was =
     let b : Allowed = allowed_from q p a in
     let r = out_here t f s p b h within (ap (is_met f) (sym e)) in (
-      sym (next_past t s (p + 1) (later b) (omega (arith, past_all s p e))) ∙ next_on t s p b within (sym r.0) ∙ was.same,
+      sym (next_past t s (p + 1) (at_later_places b) (omega (arith, past_all s p e))) ∙ next_on t s p b within (sym r.0) ∙ was.same,
       omega (arith, was.cost, r.1, reads_here t s p b within),
     )
 
@@ -163,19 +167,19 @@ scan_cost t u s v q p a old mid new e d was within h k =
 
 -- where nothing is found there, it goes on at the next place
 pub scan_on : (t u : PlainTree) (s v : List ℕ) (q p : ℕ) (a : Allowed) (old mid new : ℕ) → t ≡ u → s ≡ v → PassedOver t s q p a → p ≤ length s → None ≡ first_allowed t s p (allowed_from q p a) → mid + q ≤ old + p + 1 → new + 1 ≤ mid + reads t s p (allowed_from q p a)
-    → (next_span u v (p + 1) (later a) ≡ next_span u v q a) × (new + next_reads u v (p + 1) (later a) ≤ old + next_reads u v q a)
+    → (next_span u v (p + 1) (at_later_places a) ≡ next_span u v q a) × (new + next_reads u v (p + 1) (at_later_places a) ≤ old + next_reads u v q a)
 scan_on t u s v q p a old mid new e d was within none h k =
     let b : Allowed = allowed_from q p a in
     let same : next_reads t s q a ≡ next_reads u v q a = λ i. next_reads (e i) (d i) q a in
-    let on : next_reads t s (p + 1) (later a) ≡ next_reads u v (p + 1) (later a) = λ i. next_reads (e i) (d i) (p + 1) (later a) in (
-      sym (λ i. next_span (e i) (d i) (p + 1) (later a)) ∙ next_on t s p b within none ∙ was.same ∙ (λ i. next_span (e i) (d i) q a),
+    let on : next_reads t s (p + 1) (at_later_places a) ≡ next_reads u v (p + 1) (at_later_places a) = λ i. next_reads (e i) (d i) (p + 1) (at_later_places a) in (
+      sym (λ i. next_span (e i) (d i) (p + 1) (at_later_places a)) ∙ next_on t s p b within none ∙ was.same ∙ (λ i. next_span (e i) (d i) q a),
       omega (arith, h, k, was.cost, reads_on t s p b within none, on, same),
     )
 
 -- where no unit is left, there is none
-pub scan_none : (l : Lead) (u : PlainTree) (s v : List ℕ) (q p : ℕ) (a : Allowed) (old new : ℕ) → Begins l → lead_tree l ≡ u → s ≡ v → PassedOver (lead_tree l) s q p a → p ≤ length s → None ≡ slice_get s p → new + q ≤ old + p + 1
+pub scan_none : (l : FirstUnit) (u : PlainTree) (s v : List ℕ) (q p : ℕ) (a : Allowed) (old new : ℕ) → Begins l → first_unit_tree l ≡ u → s ≡ v → PassedOver (first_unit_tree l) s q p a → p ≤ length s → None ≡ slice_get s p → new + q ≤ old + p + 1
     → (None ≡ next_span u v q a) × (new ≤ old + next_reads u v q a)
 scan_none l u s v q p a old new h e d was within none k =
-    let r = passed_all (lead_tree l) (may_lead l) s q p a (lead_leads l h) within none was in
-    let same : next_reads (lead_tree l) s q a ≡ next_reads u v q a = λ i. next_reads (e i) (d i) q a in
+    let r = passed_all (first_unit_tree l) (meets_first l) s q p a (tree_reads_first_unit l h) within none was in
+    let same : next_reads (first_unit_tree l) s q a ≡ next_reads u v q a = λ i. next_reads (e i) (d i) q a in
     (r.0 ∙ (λ i. next_span (e i) (d i) q a), omega (arith, k, r.1, same))

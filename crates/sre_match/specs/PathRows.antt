@@ -22,7 +22,7 @@ from_to start stop = record { start = start; stop = stop; marks = [] }
 abbrev pub a_any : PlainTree
 a_any = lit 97 then any_all then nothing
 
--- `a*`, `a*?`, `a*+`
+-- `a*?` and `a*+`
 abbrev pub lazy_star : PlainTree
 lazy_star = repeat Lazy true 0 MAXREPEAT (lit 97 then nothing) then nothing
 
@@ -37,7 +37,8 @@ no_b = look false 0 (lit 98 then nothing) then nothing
 abbrev pub fails_then_passes : Next
 fails_then_passes p m = failed 1 ∷ passed 1 2 [] ∷ []
 
-pub after_row : after (failed 1 ∷ passed 1 1 [] ∷ []) fails_then_passes ≡ failed 1 ∷ failed 2 ∷ passed 1 2 [] ∷ []
+pub after_row : after (failed 1 ∷ passed 1 1 [] ∷ []) fails_then_passes
+    ≡ failed 1 ∷ failed 2 ∷ passed 1 2 [] ∷ []
 after_row = refl
 
 pub cut_row : cut (failed 1 ∷ passed 2 2 [] ∷ passed 1 1 [] ∷ []) ≡ failed 1 ∷ passed 2 2 [] ∷ []
@@ -50,7 +51,9 @@ pub not_negated_row : negated 3 [] (failed 1 ∷ []) ≡ failed 1 ∷ passed 0 3
 not_negated_row = refl
 
 -- the last capture of a group counts
-pub last_capture : span_of (record { group = 1; start = 0; stop = 1 } ∷ record { group = 1; start = 1; stop = 2 } ∷ []) 1 ≡ Some (1, 2)
+pub last_capture :
+    span_of (record { group = 1; start = 0; stop = 1 }
+    ∷ record { group = 1; start = 1; stop = 2 } ∷ []) 1 ≡ Some (1, 2)
 last_capture = refl
 
 pub two_units : paths a_any (codes "abac") 0 [] ≡ passed 2 2 [] ∷ []
@@ -62,10 +65,12 @@ no_unit = refl
 pub both_alternatives : paths a_or_ab (codes "ab") 0 [] ≡ passed 1 1 [] ∷ passed 2 2 [] ∷ []
 both_alternatives = refl
 
-pub greedy_paths : paths (star 97) (codes "aa") 0 [] ≡ failed 3 ∷ passed 0 2 [] ∷ passed 0 1 [] ∷ passed 0 0 [] ∷ []
+pub greedy_paths : paths (star 97) (codes "aa") 0 []
+    ≡ failed 3 ∷ passed 0 2 [] ∷ passed 0 1 [] ∷ passed 0 0 [] ∷ []
 greedy_paths = refl
 
-pub lazy_paths : paths lazy_star (codes "aa") 0 [] ≡ passed 0 0 [] ∷ passed 1 1 [] ∷ passed 1 2 [] ∷ failed 1 ∷ []
+pub lazy_paths : paths lazy_star (codes "aa") 0 []
+    ≡ passed 0 0 [] ∷ passed 1 1 [] ∷ passed 1 2 [] ∷ failed 1 ∷ []
 lazy_paths = refl
 
 pub possessive_paths : paths possessive_star (codes "aa") 0 [] ≡ failed 3 ∷ passed 0 2 [] ∷ []
@@ -85,7 +90,8 @@ pub first_of_two : first_allowed a_or_ab (codes "ab") 0 (any_end false) ≡ Some
 unfolding first_allowed
 first_of_two = refl
 
-pub first_whole : first_allowed a_or_ab (codes "ab") 0 (record { advance = false; whole = true }) ≡ Some (2, [])
+pub first_whole : first_allowed a_or_ab (codes "ab") 0 (record { advance = false; whole = true })
+    ≡ Some (2, [])
 unfolding first_allowed
 first_whole = refl
 
@@ -106,7 +112,8 @@ pub two_spans : spans (lit 97 then nothing) (codes "aaa") 0 2 ≡ from_to 0 1 �
 unfolding next_within spans_of first_allowed
 two_spans = refl
 
-pub empty_spans : spans (star 120) (codes "abxd") 0 0 ≡ from_to 0 0 ∷ from_to 1 1 ∷ from_to 2 3 ∷ from_to 3 3 ∷ from_to 4 4 ∷ []
+pub empty_spans : spans (star 120) (codes "abxd") 0 0
+    ≡ from_to 0 0 ∷ from_to 1 1 ∷ from_to 2 3 ∷ from_to 3 3 ∷ from_to 4 4 ∷ []
 unfolding next_within spans_of first_allowed
 empty_spans = refl
 
@@ -118,7 +125,8 @@ after_two_bytes = refl
 pub past_the_subject : start_of (codes "aab") 2 1 ≡ 2
 past_the_subject = refl
 
-pub after_an_empty_span : start_after (Some (from_to 0 0)) (record { place = 0; advance = false }) ≡ record { place = 0; advance = true }
+pub after_an_empty_span : start_after (Some (from_to 0 0)) (record { place = 0; advance = false })
+    ≡ record { place = 0; advance = true }
 after_an_empty_span = refl
 
 pub within_range : is_member (RangeItem 97 99 ∷ []) 98 ≡ true

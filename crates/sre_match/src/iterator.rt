@@ -28,7 +28,8 @@ pub struct SearchIter<'c, S: StrDrive> {
 
 impl<'c, S: StrDrive> Model for SearchIter<'c, S> {
     ghost use Rattle.std.specs.Prelude.{◌≡◌, false, true, length};
-    ghost use Rattle.sre_match.specs.Search.{Walk, walk_code, place_of, fits_or_past};
+    ghost use Rattle.sre_match.specs.Search.{Walk, place_of, fits_or_past};
+    ghost use Rattle.sre_match.specs.SearchCode.{walk_code};
 
     ghost Value = { Walk };
 

@@ -14,5 +14,5 @@ pub use error::MatchError;
 pub use iterator::SearchIter;
 pub use marks::Marks;
 pub use request::Request;
-pub use state::State;
-pub use view::{ByteView, MeteredView, StrDrive, StringCursor, TextView, metered_search};
+pub use state::{State, metered_search};
+pub use view::{ByteView, MeteredView, StrDrive, StringCursor, TextView};

@@ -2,11 +2,11 @@
 
 mod anchors;
 mod branches;
+mod candidate;
 mod choices;
+mod first_unit;
 mod frames;
 mod iterations;
-mod leads;
-mod led;
 mod machine;
 mod nodes;
 mod references;

@@ -1,4 +1,4 @@
-//! The last match.
+//! The last match, and the searches that find it.
 
 ghost use Rattle.std.specs.Prelude.{◌≡◌, ◌≢◌, ◌≤◌, ◌+◌, [], true, Ok, IfOk};
 ghost use Rattle.sre_match.specs.Captures.{captures};
@@ -10,7 +10,7 @@ use crate::marks::{Capture, Marks};
 use crate::matcher::search::{first_end, next_ends};
 use crate::matcher::trail::new_trail;
 use crate::request::Request;
-use crate::view::{StrDrive, StringCursor};
+use crate::view::{MeteredView, StrDrive, StringCursor};
 use py_base::Steps;
 use std::alloc::Global;
 use std::marker::Model;
@@ -56,7 +56,7 @@ impl State {
         self.marks.swap(marks);
     }
 
-    /// Whether there is an allowed outcome at the request's start. The state then has the first one.
+    /// Whether there is an allowed outcome at the request's start. The state then has the first.
     pub fn pymatch<S: StrDrive, L: Ledger>(
         &mut self,
         request: &Request<'_, S>,
@@ -126,4 +126,18 @@ impl State {
     {
         &self.marks
     }
+}
+
+/// The search of `State::search` over bytes that no counter but this one can count: `cost` is then
+/// a bound on the bytes that are read.
+pub fn metered_search<'s, L: Ledger>(
+    state: &mut State,
+    request: &Request<'_, MeteredView<'s, L>>,
+    steps: &mut Steps<L>,
+) -> Result<bool, MatchError>
+    ensures found { IfOk result (λ found. if_found found state.new ≡ match_next request.now) }
+    ensures kept { result ≢ Ok true → state.new ≡ state.old }
+    ensures cost { steps.new ≤ steps.old + reads_next request.now }
+{
+    state.search(request, steps)
 }

@@ -12,7 +12,7 @@ pub mod short;
 mod text;
 
 pub use bytes::ByteView;
-pub use metered::{MeteredView, metered_search};
+pub use metered::MeteredView;
 pub use text::TextView;
 
 /// A place of a subject, counted in units from its beginning, and the bytes before it, where units
@@ -70,8 +70,8 @@ pub trait StrDrive: Drop {
     /// Whether the cursor is one of this list.
     ghost fits: { List ℕ → StringCursor → Bool };
 
-    /// Which counters can count its reads, by the names of their ledgers. A body that is generic in the
-    /// view knows this of the counter that it was passed, and of no other.
+    /// Which counters may count its reads, by their ledgers' names: all, or one. So code that is
+    /// generic in the view can count only with the counter that it was given.
     ghost counts: { ℕ → Type 0 };
 
     /// The units of a part.
@@ -129,5 +129,6 @@ pub trait StrDrive: Drop {
     ghost within: { (u : List ℕ) (c : StringCursor) → fits u c ≡ true → c.place ≤ length u };
 
     /// What fits a list fits its first units, where its place is among them.
-    ghost cut_fits: { (u : List ℕ) (n : ℕ) (c : StringCursor) → c.place ≤ n → fits (take n u) c ≡ fits u c };
+    ghost cut_fits: { (u : List ℕ) (n : ℕ) (c : StringCursor)
+        → c.place ≤ n → fits (take n u) c ≡ fits u c };
 }

@@ -127,7 +127,7 @@ fn every_kind(rt: HostRuntime) {
     }
 }
 
-const REFUSED: [&str; 5] = [
+const NO_CODES: [&str; 5] = [
     "pattern t\ncode 14 9 16 97 1\ngroups 0\nlimit 0\nlist t\nsubject t61\n",
     "pattern t\ncode 25 1\ngroups 0\nlimit 0\nlist t\nsubject t61\n",
     "pattern t\ncode 14 0 1\ngroups 0\nlimit 0\nlist t\nsubject t61\n",
@@ -137,9 +137,9 @@ const REFUSED: [&str; 5] = [
 
 #[test]
 fn no_code(rt: HostRuntime) {
-    for request in &REFUSED {
-        let refused = is_answered(rt.alloc(), request.as_bytes(), 1, b"error invalid_code\n");
-        assert!(rt; refused, "at {request}");
+    for request in &NO_CODES {
+        let answered = is_answered(rt.alloc(), request.as_bytes(), 1, b"error invalid_code\n");
+        assert!(rt; answered, "at {request}");
     }
 }
 

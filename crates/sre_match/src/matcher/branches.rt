@@ -7,10 +7,10 @@ ghost use Rattle.std.specs.Prelude.{◌≡◌, ◌≢◌, ◌+◌, ◌≤◌, �
 ghost use Rattle.sre_match.specs.Machine.{ahead_of, part_next, to_try, Sound, Gives, Leaves, Linked, rest_of, trying};
 ghost use Rattle.sre_match.specs.Attempts.{Attempt, after, Marks};
 ghost use Rattle.sre_match.specs.Paths.{all_paths};
-ghost use Rattle.sre_match.specs.Anchors as places;
+ghost use Rattle.sre_match.specs.Anchors as anchors;
 ghost use Rattle.sre_match.specs.Singles as singles;
 ghost use Rattle.sre_match.specs.Branches as spec;
-ghost use Rattle.sre_match.specs.Leads.{all_single, any_left};
+ghost use Rattle.sre_match.specs.FirstUnit.{all_single, any_left};
 ghost use Rattle.sre_code.specs.TreeView.{node_of, trees_of};
 
 use crate::matcher::choices::keep;
@@ -25,7 +25,7 @@ use std::sync::ledger::Ledger;
 
 // Whether there is a unit and it meets a node that is one unit.
 fn is_met(node: &Node, unit: Option<u32>) -> bool
-    ensures { result ≡ places.is_met (singles.meets (node_of node.now)) unit }
+    ensures { result ≡ anchors.is_met (singles.meets (node_of node.now)) unit }
 {
     match unit {
         Some(c) => meets(node, c),
@@ -69,7 +69,7 @@ pub fn left_of<'t>(trees: &'t [Tree], unit: Option<u32>) -> &'t [Tree]
 
 // Alternatives for later, of which a last one is its nodes.
 #[tactic(auto, using(crate::proofs::TurnLemmas::alone))]
-fn later<'t>(more: &'t [Tree]) -> Part<'t>
+fn kept_part<'t>(more: &'t [Tree]) -> Part<'t>
     requires { more.now ≢ [] }
     ensures { (s : List ℕ) (p : ℕ) (m : Marks)
         → part_next result s p m ≡ all_paths (trees_of more.entry.now) s p m }
@@ -105,7 +105,7 @@ fn keep_later<'t>(
     keep(
         trail,
         ChoiceKind::Try,
-        later(more),
+        kept_part(more),
         current.rest,
         current.cursor,
     )
@@ -138,23 +138,23 @@ fn met_turn<'t, S: StrDrive>(
     s: &Subject<'_, S>,
     current: &mut Current<'t>,
     trail: &mut Trail<'t>,
-) -> Turn
+) -> Result<(), AllocError>
     requires within { current.old.cursor.place < length s.now }
+    requires begins { spec.begins_single t.now ≡ true }
+    requires met { spec.is_out t.now (slice_get s.now current.old.cursor.place) ≡ false }
     requires ready { Ready (S.fits s.now) current.old trail.old }
-    ensures gives { (n : ℕ) → spec.begins_single t.now ≡ true
-        → spec.is_out t.now (slice_get s.now current.old.cursor.place) ≡ false
-        → Gives result current.new s.now trail.new n (n + 1)
-        (trying (spec.each_paths (t.now ∷ more.entry.now) s.now) current.old s.now trail.old) }
-    ensures ready { Stays result (S.fits s.now) current.new trail.new }
+    ensures gives { OnOk result ((n : ℕ) → Leaves n (n + 1)
+        (trying (spec.each_paths (t.now ∷ more.entry.now) s.now) current.old s.now trail.old)
+        (ahead_of current.new s.now trail.new)) }
+    ensures ready { OnOk result (Ready (S.fits s.now) current.new trail.new) }
 {
-    let Ok(()) = keep_later(more, current, trail) else {
-        return Turn::Full;
+    keep_later(more, current, trail)?;
+    let [_, following @ ..] = t.nodes() else {
+        unreachable!()
     };
-    if let [_, following @ ..] = t.nodes() {
-        current.part = Part::Nodes(following);
-        s.skip(&mut current.cursor, 1);
-    }
-    Turn::Go
+    current.part = Part::Nodes(following);
+    s.skip(&mut current.cursor, 1);
+    Ok(())
 }
 
 // The alternatives after one that is out.
@@ -197,7 +197,10 @@ fn read_turn<'t, S: StrDrive, L: Ledger>(
     if is_out(t, unit) {
         others_turn(more, unit, current, trail)
     } else {
-        met_turn(t, left_of(more, unit), s, current, trail)
+        match met_turn(t, left_of(more, unit), s, current, trail) {
+            Err(_) => Turn::Full,
+            Ok(()) => Turn::Go,
+        }
     }
 }
 
@@ -251,12 +254,7 @@ pub fn known_turn<'t, S: StrDrive>(
     ensures ready { OnOk result (Ready (S.fits s.now) current.new trail.new) }
 {
     match left_of(trees, Some(unit)) {
-        [] => Err(AllocError),
-        [t, others @ ..] => {
-            match met_turn(t, left_of(others, Some(unit)), s, current, trail) {
-                Turn::Go => Ok(()),
-                _ => Err(AllocError),
-            }
-        }
+        [] => unreachable!(),
+        [t, others @ ..] => met_turn(t, left_of(others, Some(unit)), s, current, trail),
     }
 }

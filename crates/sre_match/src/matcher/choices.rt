@@ -169,7 +169,7 @@ pub fn go_back<'t>(current: &mut Current<'t>, trail: &mut Trail<'t>) -> bool
         → Fit ok trail.old → result ≡ true → ok current.new.cursor ≡ true }
 {
     while let Some(choice) = pop(trail) {
-        // Two arms alike: the definitions tell these kinds apart, and each is proved by its own case.
+        // Two arms alike: the definitions tell these kinds apart, and each is proved by its case.
         match choice.kind {
             ChoiceKind::Atomic | ChoiceKind::Ahead => {}
             ChoiceKind::Try => {

@@ -10,7 +10,7 @@ ghost use Rattle.sre_match.specs.Repeats.{repeat_paths, optional, is_past};
 
 use crate::matcher::choices::keep;
 use crate::matcher::frames::put;
-use crate::matcher::singles::{is_met, only_single};
+use crate::matcher::singles::{met_at, only_single};
 use crate::matcher::subject::Subject;
 use crate::matcher::trail::{ChoiceKind, Current, Part, Task, Trail, Turn};
 use crate::view::StrDrive;
@@ -201,7 +201,7 @@ pub fn once_turn<'t, S: StrDrive, L: Ledger>(
     match only_single(body) {
         None => iteration_turn(body, room, current, trail),
         Some(node) => {
-            if !is_met(node, s, &current.cursor, steps) {
+            if !met_at(node, s, &current.cursor, steps) {
                 return Turn::Fail;
             }
             s.skip(&mut current.cursor, 1);

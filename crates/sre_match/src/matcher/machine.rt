@@ -4,7 +4,7 @@ ghost use Rattle.sre_match.specs.Captures.{captures};
 ghost use Rattle.sre_match.specs.Cursor.{Cursor};
 ghost use Rattle.sre_match.specs.Fits.{task_fits, Fit, Stays, Remains, Ready};
 ghost use Rattle.std.specs.Prelude.{◌≡◌, ◌+◌, ◌≤◌, ℕ, Bool, true, List, [], None, IfOk, IfSome, option_map, length};
-ghost use Rattle.sre_match.specs.Machine.{allowed_by, part_next, task_next, to_try, ahead_of, Sound, Gives, Leaves, Leads, outcome_at, rest_of, tried_at, trying};
+ghost use Rattle.sre_match.specs.Machine.{allowed_by, part_next, task_next, to_try, ahead_of, Sound, Gives, Leaves, Progresses, outcome_at, rest_of, tried_at, trying};
 ghost use Rattle.sre_match.specs.Attempts.{chosen, cost_of};
 ghost use Rattle.sre_match.specs.Paths.{paths};
 ghost use Rattle.sre_code.specs.TreeView.{tree_of};
@@ -15,17 +15,16 @@ use crate::matcher::choices::go_back;
 use crate::matcher::frames::{drop_frame, frame_in};
 use crate::matcher::iterations::{once_turn, optional_turn, rep_turn};
 use crate::matcher::nodes::nodes_turn;
-use crate::matcher::singles::{is_met, is_single};
 use crate::matcher::subject::Subject;
 use crate::matcher::trail::{Current, Part, Task, Trail, Turn, clear};
 use crate::matcher::turns::{back_turn, end_group_turn, leave};
 use crate::view::{StrDrive, StringCursor};
 use py_base::Steps;
-use sre_code::{Node, Tree};
+use sre_code::Tree;
 use std::alloc::AllocError;
 use std::sync::ledger::Ledger;
 
-/// Where a turn leads.
+/// What a turn has come to.
 #[derive(Clone, Copy, Drop)]
 pub enum Progress {
     /// There is more to do.
@@ -143,8 +142,8 @@ fn take_turn<'t, S: StrDrive, L: Ledger>(
 // Goes on with the newest choice.
 fn retry<'t>(current: &mut Current<'t>, trail: &mut Trail<'t>) -> Progress
     requires { Sound trail.old }
-    ensures leads { (ok : ℕ → Bool) (s : List ℕ) (n : ℕ)
-        → Leads result current.new ok s trail.new n n (to_try s trail.old []) }
+    ensures progress { (ok : ℕ → Bool) (s : List ℕ) (n : ℕ)
+        → Progresses result current.new ok s trail.new n n (to_try s trail.old []) }
     ensures ready { (ok : Cursor → Bool)
         → Fit ok trail.old → Remains result ok current.new trail.new }
 {
@@ -155,7 +154,7 @@ fn retry<'t>(current: &mut Current<'t>, trail: &mut Trail<'t>) -> Progress
     }
 }
 
-// A turn, and where it leads: on, back to the newest choice, or to an outcome.
+// A turn, and what it has come to: what is next, the newest choice, or an outcome.
 fn next_turn<'t, S: StrDrive, L: Ledger>(
     s: &Subject<'_, S>,
     current: &mut Current<'t>,
@@ -166,8 +165,8 @@ fn next_turn<'t, S: StrDrive, L: Ledger>(
 ) -> Progress
     requires ready { Ready (S.fits s.now) current.old trail.old }
     requires counter { S.counts L.name }
-    ensures leads { let is_end = is_allowed s.now start (allowed_by ends) in
-        Leads result current.new is_end s.now trail.new steps.old steps.new
+    ensures progress { let is_end = is_allowed s.now start (allowed_by ends) in
+        Progresses result current.new is_end s.now trail.new steps.old steps.new
         (ahead_of current.old s.now trail.old) }
     ensures ready { Remains result (S.fits s.now) current.new trail.new }
 {
@@ -185,49 +184,6 @@ fn next_turn<'t, S: StrDrive, L: Ledger>(
     }
 }
 
-// Where a tree begins at a cursor. A first node that is one unit is read at once; none says that it
-// is not met.
-fn first_current<'t, S: StrDrive, L: Ledger>(
-    nodes: &'t [Node],
-    s: &Subject<'_, S>,
-    cursor: &StringCursor,
-    steps: &mut Steps<L>,
-) -> Option<Current<'t>>
-    requires fits { S.fits s.now cursor.now ≡ true }
-    requires counter { S.counts L.name }
-    ensures begins { IfSome result (λ current. Leaves steps.old steps.new
-        (paths (tree_of nodes.entry.now) s.now cursor.now.place [])
-        (part_next current.part s.now current.cursor.place [])) }
-    ensures rest { IfSome result (λ current. current.rest ≡ 0) }
-    ensures fits { IfSome result (λ current. S.fits s.now current.cursor ≡ true) }
-    ensures fails { result ≡ None → Leaves steps.old steps.new
-        (paths (tree_of nodes.entry.now) s.now cursor.now.place []) [] }
-{
-    let whole = Current {
-        part: Part::Nodes(nodes),
-        rest: 0,
-        cursor: *cursor,
-    };
-    match nodes {
-        [] => Some(whole),
-        [node, more @ ..] => {
-            if !is_single(node) {
-                return Some(whole);
-            }
-            if !is_met(node, s, cursor, steps) {
-                return None;
-            }
-            let mut following = *cursor;
-            s.skip(&mut following, 1);
-            Some(Current {
-                part: Part::Nodes(more),
-                rest: 0,
-                cursor: following,
-            })
-        }
-    }
-}
-
 /// The end of the first allowed outcome of what is to be tried. The trail then has its marks.
 pub fn run_from<'t, S: StrDrive, L: Ledger>(
     current: Current<'t>,
@@ -241,7 +197,8 @@ pub fn run_from<'t, S: StrDrive, L: Ledger>(
     requires counter { S.counts L.name }
     ensures fits { IfOk result (λ o. IfSome o (λ c. S.fits s.now c ≡ true)) }
     ensures found { IfOk result (λ o. option_map (outcome_at (captures trail.new.marks.items)) o
-        ≡ chosen (is_allowed s.now start (allowed_by ends)) (ahead_of current.entry s.now trail.old)) }
+        ≡ chosen (is_allowed s.now start (allowed_by ends))
+        (ahead_of current.entry s.now trail.old)) }
     ensures cost { let is_end = is_allowed s.now start (allowed_by ends) in
         steps.new ≤ steps.old + cost_of is_end (ahead_of current.entry s.now trail.old) }
 {
@@ -274,11 +231,11 @@ pub fn find_at<'t, S: StrDrive, L: Ledger>(
         ≡ first_allowed tree.now s.now start.now.place (allowed_by ends)) }
     ensures cost { steps.new ≤ steps.old + reads tree.now s.now start.now.place (allowed_by ends) }
 {
-    match first_current(tree.nodes(), s, start, steps) {
-        None => Ok(None),
-        Some(current) => {
-            clear(trail);
-            run_from(current, trail, s, start.place, ends, steps)
-        }
-    }
+    clear(trail);
+    let current = Current {
+        part: Part::Nodes(tree.nodes()),
+        rest: 0,
+        cursor: *start,
+    };
+    run_from(current, trail, s, start.place, ends, steps)
 }

@@ -2,13 +2,13 @@
 
 ghost use Rattle.sre_match.specs.Captures.{captures};
 ghost use Rattle.std.specs.Prelude.{◌≡◌, ◌≤◌, ◌+◌, true, None, IfOk, IfSome, option_map, length};
-ghost use Rattle.sre_match.specs.Leads.{Begins, allowed_from, lead_tree};
+ghost use Rattle.sre_match.specs.FirstUnit.{Begins, allowed_from, first_unit_tree};
 ghost use Rattle.sre_match.specs.Machine.{allowed_by, outcome_at, span_with};
 ghost use Rattle.sre_match.specs.Matches.{first_allowed, reads, next_span, next_reads};
 ghost use Rattle.sre_match.specs.Search.{allowed_in};
 
-use crate::matcher::leads::{Lead, lead_of, next_lead};
-use crate::matcher::led::find_led;
+use crate::matcher::candidate::find_at_candidate;
+use crate::matcher::first_unit::{FirstUnit, first_unit_of, next_candidate};
 use crate::matcher::machine::{AllowedEnds, find_at};
 use crate::matcher::subject::Subject;
 use crate::matcher::trail::Trail;
@@ -42,7 +42,7 @@ pub fn first_end<'c, S: StrDrive, L: Ledger>(
     ensures cost { let r = request.now in
         steps.new ≤ steps.old + reads r.tree r.subject start.now.place (allowed_in r advance) }
 {
-    let subject = Subject::new(&request.string, request.end);
+    let subject = subject_of(request);
     let code = request.code;
     let ends = AllowedEnds {
         advance,
@@ -59,7 +59,7 @@ fn one_on<S: StrDrive>(request: &Request<'_, S>, cursor: &StringCursor) -> Optio
     ensures inside { IfSome result (λ c. c.place ≤ length request.now.subject) }
     ensures none { result ≡ None → cursor.now.place ≡ length request.now.subject }
 {
-    let subject = Subject::new(&request.string, request.end);
+    let subject = subject_of(request);
     if cursor.place >= subject.count() {
         return None;
     }
@@ -68,7 +68,7 @@ fn one_on<S: StrDrive>(request: &Request<'_, S>, cursor: &StringCursor) -> Optio
     Some(moved)
 }
 
-// Which ends are allowed at a place, where the search began at another one.
+// Which ends are allowed at `place` in a search from `began`: only there must the end advance.
 fn ends_from<S: StrDrive>(
     request: &Request<'_, S>,
     advance: bool,
@@ -83,18 +83,18 @@ fn ends_from<S: StrDrive>(
     }
 }
 
-// The least place from a cursor on that has an allowed outcome, and its end, of a tree that begins
-// so. The trail then has its marks.
-fn led_ends<'c, S: StrDrive, L: Ledger>(
+// The least place from a cursor on that has an allowed outcome, and its end, of a tree with this
+// first unit. The trail then has its marks.
+fn candidate_ends<'c, S: StrDrive, L: Ledger>(
     request: &Request<'c, S>,
-    lead: &Lead<'c>,
+    first_unit: &FirstUnit<'c>,
     trail: &mut Trail<'c>,
     from: &StringCursor,
     advance: bool,
     steps: &mut Steps<L>,
 ) -> Result<Option<(StringCursor, StringCursor)>, AllocError>
-    requires begins { Begins lead.now }
-    requires tree { lead_tree lead.now ≡ request.now.tree }
+    requires begins { Begins first_unit.now }
+    requires tree { first_unit_tree first_unit.now ≡ request.now.tree }
     requires fits { S.fits request.now.subject from.now ≡ true }
     requires counter { S.counts L.name }
     ensures fits { IfOk result (λ o. IfSome o (λ x. S.fits request.now.subject x.1 ≡ true)) }
@@ -106,18 +106,20 @@ fn led_ends<'c, S: StrDrive, L: Ledger>(
 {
     let subject = subject_of(request);
     let mut start = *from;
-    let mut advances = advance;
+    let mut must_advance = advance;
     'places: loop {
         let began = start.place;
-        let Some(unit) = next_lead(lead, &subject, &mut start, steps) else {
+        let Some(unit) = next_candidate(first_unit, &subject, &mut start, steps) else {
             return Ok(None);
         };
-        let ends = ends_from(request, advances, began, start.place);
-        if let Some(stop) = find_led(trail, lead, unit, &subject, &start, ends, steps)? {
+        let ends = ends_from(request, must_advance, began, start.place);
+        if let Some(stop) = find_at_candidate(
+            trail, first_unit, unit, &subject, &start, ends, steps,
+        )? {
             return Ok(Some((start, stop)));
         }
         subject.skip(&mut start, 1);
-        advances = false;
+        must_advance = false;
     }
 }
 
@@ -139,16 +141,16 @@ fn tried_ends<'c, S: StrDrive, L: Ledger>(
         steps.new ≤ steps.old + next_reads r.tree r.subject from.now.place (allowed_in r advance) }
 {
     let mut start = *from;
-    let mut moves = advance;
+    let mut must_advance = advance;
     'places: loop {
-        if let Some(stop) = first_end(request, trail, &start, moves, steps)? {
+        if let Some(stop) = first_end(request, trail, &start, must_advance, steps)? {
             return Ok(Some((start, stop)));
         }
         match one_on(request, &start) {
             None => return Ok(None),
             Some(next) => start = next,
         }
-        moves = false;
+        must_advance = false;
     }
 }
 
@@ -171,8 +173,8 @@ pub fn next_ends<'c, S: StrDrive, L: Ledger>(
         steps.new ≤ steps.old + next_reads r.tree r.subject from.now.place (allowed_in r advance) }
 {
     let code = request.code;
-    match lead_of(code.tree().nodes()) {
-        Some(lead) => led_ends(request, &lead, trail, from, advance, steps),
+    match first_unit_of(code.tree().nodes()) {
+        Some(first_unit) => candidate_ends(request, &first_unit, trail, from, advance, steps),
         None => tried_ends(request, trail, from, advance, steps),
     }
 }

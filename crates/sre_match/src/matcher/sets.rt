@@ -7,8 +7,8 @@ ghost use Rattle.sre_match.specs.Members as spec;
 use py_base::{category, is_category};
 use sre_code::{Items, SetItem};
 
-// Whether a unit is in the category of this number. Where it names none, all units are in it where it
-// is odd, and else none.
+// Whether a unit is in the category of this number. Where it names none, all units are in it where
+// it is odd, and else none.
 #[tactic(auto, using(crate::proofs::SetLemmas::no_category))]
 fn in_category(number: u32, unit: u32) -> bool
     ensures { result ≡ in_category number unit }

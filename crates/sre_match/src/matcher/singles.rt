@@ -68,7 +68,7 @@ pub fn meets(node: &Node, unit: u32) -> bool
 
 /// Whether there is a unit at a place and it meets a node that is one unit.
 #[tactic(auto, using(crate::proofs::UnitLemmas::met_by, crate::proofs::UnitLemmas::not_met))]
-pub fn is_met<S: StrDrive, L: Ledger>(
+pub fn met_at<S: StrDrive, L: Ledger>(
     node: &Node,
     s: &Subject<'_, S>,
     cursor: &StringCursor,
@@ -104,7 +104,7 @@ pub fn single_turn<'t, S: StrDrive, L: Ledger>(
         current.old s.now trail.now) }
     ensures ready { Stays result (S.fits s.now) current.new trail.now }
 {
-    if is_met(node, s, &current.cursor, steps) {
+    if met_at(node, s, &current.cursor, steps) {
         current.part = part;
         s.skip(&mut current.cursor, 1);
         Turn::Go
@@ -144,7 +144,7 @@ pub fn run_length<S: StrDrive, L: Ledger>(
 {
     let mut n = 0;
     while n < most {
-        if !is_met(node, s, cursor, steps) {
+        if !met_at(node, s, cursor, steps) {
             return n;
         }
         s.skip(cursor, 1);

@@ -10,6 +10,7 @@ use std::marker::Model;
 use std::sync::ledger::Ledger;
 
 /// Bytes, each of which is a unit. So may an ASCII text be read, whose bytes are its code points.
+/// A byte's cursor has no offset.
 #[derive(Drop)]
 pub struct ByteView<'s> {
     all: &'s [u8],
@@ -52,7 +53,7 @@ impl<'s> StrDrive for ByteView<'s> {
     }
 
     fn create_cursor(&self, n: usize) -> StringCursor {
-        StringCursor::new(n, n)
+        StringCursor::new(n, 0)
     }
 
     fn peek<L: Ledger>(&self, cursor: &StringCursor, steps: &mut Steps<L>) -> u32 {
@@ -62,8 +63,9 @@ impl<'s> StrDrive for ByteView<'s> {
     }
 
     fn skip(&self, cursor: &mut StringCursor, n: usize) {
+        // Named for its length, which bounds the sum.
         let _bytes = self.all;
-        *cursor = StringCursor::new(cursor.position() + n, cursor.offset());
+        *cursor = StringCursor::new(cursor.position() + n, 0);
     }
 
     fn back_peek<L: Ledger>(&self, cursor: &StringCursor, steps: &mut Steps<L>) -> u32 {
@@ -73,7 +75,7 @@ impl<'s> StrDrive for ByteView<'s> {
     }
 
     fn back_skip(&self, cursor: &mut StringCursor, n: usize) {
-        *cursor = StringCursor::new(cursor.position() - n, cursor.offset());
+        *cursor = StringCursor::new(cursor.position() - n, 0);
     }
 
     fn slice(&self, from: &StringCursor, to: &StringCursor) -> &'s [u8] {

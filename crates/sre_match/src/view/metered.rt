@@ -1,14 +1,9 @@
-//! Bytes whose reads one counter alone can count, and a search over them.
+//! Bytes whose reads one counter alone can count.
 
-ghost use Rattle.std.specs.Prelude.{◌≡◌, ◌≢◌, ◌≤◌, ◌+◌, true, length, Ok, IfOk};
+ghost use Rattle.std.specs.Prelude.{◌≡◌, ◌≤◌, length};
 ghost use Rattle.sre_match.specs.Cursor.{is_within};
 ghost use Rattle.sre_match.specs.CursorLemmas.{within_list, within_cut};
-ghost use Rattle.sre_match.specs.Matches.{if_found};
-ghost use Rattle.sre_match.specs.Search.{match_next, reads_next};
 
-use crate::error::MatchError;
-use crate::request::Request;
-use crate::state::State;
 use crate::view::{ByteView, StrDrive, StringCursor};
 use py_base::Steps;
 use std::marker::{Model, PhantomData};
@@ -83,18 +78,4 @@ impl<'s, K: Ledger> StrDrive for MeteredView<'s, K> {
     fn slice(&self, from: &StringCursor, to: &StringCursor) -> &'s [u8] {
         self.view.slice(from, to)
     }
-}
-
-/// The search of `State::search` over bytes that no counter but this one can count: `cost` is then
-/// a bound on the bytes that are read.
-pub fn metered_search<'s, L: Ledger>(
-    state: &mut State,
-    request: &Request<'_, MeteredView<'s, L>>,
-    steps: &mut Steps<L>,
-) -> Result<bool, MatchError>
-    ensures found { IfOk result (λ found. if_found found state.new ≡ match_next request.now) }
-    ensures kept { result ≢ Ok true → state.new ≡ state.old }
-    ensures cost { steps.new ≤ steps.old + reads_next request.now }
-{
-    state.search(request, steps)
 }

@@ -6,8 +6,8 @@ ghost use Rattle.sre_match.specs.Cursor.{widened};
 use crate::view::StringCursor;
 use std::alloc::AllocError;
 
-/// A number in four bytes, since a subject's every place may keep several. A larger one is taken for
-/// out of memory.
+/// A number in four bytes, since a subject's every place may keep several. A larger one is taken
+/// for out of memory.
 pub fn short(n: usize) -> Result<u32, AllocError>
     ensures { IfOk result (λ k. k ≡ n) }
 {

@@ -12,8 +12,8 @@ use py_text::PyStr;
 use std::marker::Model;
 use std::sync::ledger::Ledger;
 
-/// A text, each code point of which is a unit. Its cursors know how many bytes come before them, and
-/// each read decodes one code point there.
+/// A text, each code point of which is a unit. Its cursors know how many bytes come before them,
+/// and each read decodes one code point there.
 #[derive(Drop)]
 pub struct TextView<'s> {
     text: &'s str,
@@ -27,7 +27,8 @@ impl<'s> Model for TextView<'s> {
 
     ghost view = { λ v. chars v.text.now };
 
-    ghost invariant = { λ v. (v.count ≡ length (chars v.text.now)) × (v.count ≤ length v.text.now) };
+    ghost invariant = { λ v.
+        (v.count ≡ length (chars v.text.now)) × (v.count ≤ length v.text.now) };
 }
 
 impl<'s> TextView<'s> {

@@ -56,7 +56,7 @@ fn append_span<S: TextParts>(
     from: &StringCursor,
     span: &State,
 ) -> Result<StringCursor, AllocError>
-    requires spells { S.spells (S.units view.now) }
+    requires is_text { S.is_text (S.units view.now) }
     requires fits { S.fits (S.units view.now) from.now ≡ true }
     requires follows { from.now.place ≤ span.now.start }
     requires order { span.now.start ≤ span.now.stop }
@@ -75,7 +75,7 @@ fn append_span<S: TextParts>(
 }
 
 // The UTF-8 of the subject with its spans replaced, and how many there were.
-fn replaced<S: TextParts, L: Ledger>(
+fn replaced_over<S: TextParts, L: Ledger>(
     alloc: Global,
     asked: &Substitution,
     view: S,
@@ -84,7 +84,7 @@ fn replaced<S: TextParts, L: Ledger>(
 ) -> Result<(Vec<u8>, usize), MatchError>
     requires counter { S.counts L.name }
     requires units { S.units view ≡ asked.now.subject }
-    requires spells { S.spells (S.units view) }
+    requires is_text { S.is_text (S.units view) }
     ensures text { let spans = spans_of_request (request_of asked.now) code.now.tree in
         let text = result_of asked.now.subject spans (replacement_of asked.now.template) in
         IfOk result (λ x. x.0.items ≡ encode_utf8_all text) }
@@ -112,8 +112,8 @@ fn replaced<S: TextParts, L: Ledger>(
     Ok((bytes, count))
 }
 
-// The same, where the subject is: over its bytes if it is ASCII.
-fn replaced_in_place<L: Ledger>(
+// The same over a view that fits the subject: `ByteView` if it is ASCII, else `TextView`.
+fn replaced<L: Ledger>(
     alloc: Global,
     asked: &Substitution,
     code: &Checked,
@@ -128,9 +128,9 @@ fn replaced_in_place<L: Ledger>(
     let subject = &asked.subject;
     if subject.is_ascii() {
         let view = ByteView::new(subject.as_str().as_bytes());
-        return replaced(alloc, asked, view, code, steps);
+        return replaced_over(alloc, asked, view, code, steps);
     }
-    replaced(alloc, asked, TextView::new(subject), code, steps)
+    replaced_over(alloc, asked, TextView::new(subject), code, steps)
 }
 
 /// The answer's line.
@@ -144,6 +144,6 @@ pub fn answer<L: Ledger>(
     ensures { IfOk result (λ line.
         line.items ≡ answer_of (request_of asked.now) code.now.tree) }
 {
-    let (text, count) = replaced_in_place(alloc, asked, code, steps)?;
+    let (text, count) = replaced(alloc, asked, code, steps)?;
     Ok(answer_line(alloc, &text, count)?)
 }

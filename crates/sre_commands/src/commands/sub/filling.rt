@@ -9,8 +9,7 @@ use super::template::Template;
 use sre_match::{State, StringCursor};
 use std::alloc::AllocError;
 
-/// Appends the UTF-8 of the template with each pair's group read from the subject, where a cursor
-/// is near.
+/// Appends the UTF-8 of the filled template. Each group is reached by a walk from the cursor `near`.
 pub(crate) fn fill<S: TextParts>(
     bytes: &mut Vec<u8>,
     template: &Template,
@@ -18,7 +17,7 @@ pub(crate) fn fill<S: TextParts>(
     near: &StringCursor,
     state: &State,
 ) -> Result<(), AllocError>
-    requires spells { S.spells (S.units view.now) }
+    requires is_text { S.is_text (S.units view.now) }
     requires fits { S.fits (S.units view.now) near.now ≡ true }
     ensures { let filled = fill (replacement_of template.now) (S.units view.now) state.now in
         OnOk result (bytes.new.items ≡ bytes.old.items ++ encode_utf8_all filled) }

@@ -9,8 +9,8 @@ use std::alloc::AllocError;
 
 /// A view of a text, whose parts are appended as they are in it.
 pub(crate) trait TextParts: StrDrive {
-    /// Whether the units are those of a text: of bytes, whether each is ASCII.
-    ghost spells: { List ℕ → Type 0 };
+    /// Whether the units are code points of a text; of bytes, whether each is ASCII.
+    ghost is_text: { List ℕ → Type 0 };
 
     /// Appends the UTF-8 of the part between two cursors.
     fn append(
@@ -19,7 +19,7 @@ pub(crate) trait TextParts: StrDrive {
         from: &StringCursor,
         to: &StringCursor,
     ) -> Result<(), AllocError>
-        requires spells { spells (Self.units self.now) }
+        requires is_text { is_text (Self.units self.now) }
         requires from_fits { Self.fits (Self.units self.now) from.now ≡ true }
         requires to_fits { Self.fits (Self.units self.now) to.now ≡ true }
         requires order { from.now.place ≤ to.now.place }
@@ -28,7 +28,7 @@ pub(crate) trait TextParts: StrDrive {
 }
 
 impl<'s> TextParts for ByteView<'s> {
-    ghost spells = { IsAscii };
+    ghost is_text = { IsAscii };
 
     fn append(
         &self,
@@ -42,7 +42,7 @@ impl<'s> TextParts for ByteView<'s> {
 }
 
 impl<'s> TextParts for TextView<'s> {
-    ghost spells = { λ _. ⊤ };
+    ghost is_text = { λ _. ⊤ };
 
     fn append(
         &self,
@@ -79,7 +79,7 @@ pub(crate) fn append_between<S: TextParts>(
     near: &StringCursor,
     span: Option<(usize, usize)>,
 ) -> Result<(), AllocError>
-    requires spells { S.spells (S.units view.now) }
+    requires is_text { S.is_text (S.units view.now) }
     requires fits { S.fits (S.units view.now) near.now ≡ true }
     ensures { let part = text_between (S.units view.now) span in
         OnOk result (bytes.new.items ≡ bytes.old.items ++ encode_utf8_all part) }
@@ -87,6 +87,7 @@ pub(crate) fn append_between<S: TextParts>(
     let Some((start, stop)) = span else {
         return Ok(());
     };
+    // A `State` does not promise that its spans are in order or within this view.
     let stop = stop.min(view.count());
     if stop <= start {
         return Ok(());

@@ -13,7 +13,7 @@ returns-clause-tried c =
     let m = (captures old.marks.items) in
     let some : c.args.more.now ≡ [] → ⊥ = λ e. grind (arith, e, c.is_empty.ensures, c.if-is_empty.false) in
     on_ok c.keep.result
-    (λ tried s xs. tried s xs ∙ ap (λ l. to_try s old (xs ++ after l (run old.frames.items c.args.current.now.rest s))) (c.later.ensures s p m ∙ all_each c.args.more.now s p m some))
+    (λ tried s xs. tried s xs ∙ ap (λ l. to_try s old (xs ++ after l (run old.frames.items c.args.current.now.rest s))) (c.kept_part.ensures s p m ∙ all_each c.args.more.now s p m some))
     c.keep.ensures.tried
 
 pub returns-clause-fit : goal.returns-clause-fit

@@ -7,12 +7,14 @@ use Rattle.sre_match.specs.Attempts.{after, Next}
 use Rattle.sre_match.specs.Paths.{paths}
 use Rattle.sre_match.specs.Branches.{each_paths, left_of, is_out}
 use Rattle.sre_match.proofs.BranchLemmas.{leaves_thin, thin_after, thin_left, left_thin, list_split, all_each}
+use Rattle.sre_match.proofs.ChoiceLemmas.{on_ok}
 use Rattle.sre_match.proofs.LessLemmas.{leaves_then, leaves_is}
 use Rattle.sre_match.proofs.ScanLemmas.{first_left, left_some}
 use Rattle.sre_match.proofs.matcher.branches.known_turn.Goals as goal
 
-pub returns-in-Go-clause-gives : goal.returns-in-Go-clause-gives
-returns-in-Go-clause-gives g c n =
+pub returns-clause-gives : goal.returns-clause-gives
+returns-clause-gives g c = on_ok c.met_turn.result
+    (λ given n.
     let s = c.args.s.now in
     let p = c.args.current.now.cursor.place in
     let t = c.args.trail.now in
@@ -24,8 +26,6 @@ returns-in-Go-clause-gives g c n =
     let x = c.t-item.result in
     let rest : List PlainTree = take (length left - 1) (drop 1 left) in
     let split : left_of trees u ≡ x ∷ rest = sym c.left_of.ensures ∙ list_split left x (omega (arith, c.in-len1-up.len_at_least)) c.t-item.is in
-    let first = first_left trees u x rest c.requires.begins split in
-    let given = rw c.in-Go.is at (c.met_turn.ensures.gives n first.0 (ap (λ o. is_out x o) (sym c.requires.unit) ∙ first.1)) in
     leaves_then n n (n + 1) _ _ _
     (leaves_is n _ _ (ap (λ l. to_try s t (after l k)) (all_each trees s p m (left_some trees u c.requires.left))))
     (leaves_then n n (n + 1) _ _ _
@@ -36,4 +36,26 @@ returns-in-Go-clause-gives g c n =
     (leaves_thin s t n _ _ (thin_after (each_paths (x ∷ rest) s p m) (paths x s p m ++ each_paths (left_of rest u) s p m) k (thin_left (paths x s p m) _ _ (left_thin rest s p m u c.requires.unit))))
     (leaves_then n n (n + 1) _ _ _
     (leaves_is n _ _ (ap (λ ts. to_try s t (after (paths x s p m ++ each_paths ts s p m) k)) (sym c.left_of-in-len1-up.ensures)))
-    given))))
+    (given n)))))
+    )
+    c.met_turn.ensures.gives
+
+pub met_turn-requires-clause-begins : goal.met_turn-requires-clause-begins
+met_turn-requires-clause-begins g c =
+    let trees = c.args.trees.now in
+    let u = Some c.args.unit in
+    let left = c.left_of.result.now in
+    let x = c.t-item.result in
+    let rest : List PlainTree = take (length left - 1) (drop 1 left) in
+    let split : left_of trees u ≡ x ∷ rest = sym c.left_of.ensures ∙ list_split left x (omega (arith, c.in-len1-up.len_at_least)) c.t-item.is in
+    (first_left trees u x rest c.requires.begins split).0
+
+pub met_turn-requires-clause-met : goal.met_turn-requires-clause-met
+met_turn-requires-clause-met g c =
+    let trees = c.args.trees.now in
+    let u = Some c.args.unit in
+    let left = c.left_of.result.now in
+    let x = c.t-item.result in
+    let rest : List PlainTree = take (length left - 1) (drop 1 left) in
+    let split : left_of trees u ≡ x ∷ rest = sym c.left_of.ensures ∙ list_split left x (omega (arith, c.in-len1-up.len_at_least)) c.t-item.is in
+    ap (λ o. is_out x o) (sym c.requires.unit) ∙ (first_left trees u x rest c.requires.begins split).1

@@ -19,8 +19,8 @@ use Rattle.sre_match.proofs.RunLemmas.{IsUnit, unit_body, once_met}
 use Rattle.sre_match.proofs.TurnLemmas.{run_full}
 use Rattle.sre_match.proofs.matcher.iterations.once_turn.Goals as goal
 
-pub returns-then-not-is_met-clause-gives : goal.returns-then-not-is_met-clause-gives
-returns-then-not-is_met-clause-gives g c =
+pub returns-then-not-met_at-clause-gives : goal.returns-then-not-met_at-clause-gives
+returns-then-not-met_at-clause-gives g c =
     let s = c.args.s.now in
     let p = c.args.current.now.cursor.place in
     let t = c.args.trail.now in
@@ -30,8 +30,8 @@ returns-then-not-is_met-clause-gives g c =
     let more : Next = optional body false c.args.room (Some p) in
     let k : Next = run t.frames.items c.args.current.now.rest s in
     let unit : IsUnit (meets n) s body = unit_body c.args.body.now n s c.in-Some.ensures.only c.in-Some.ensures.single in
-    leaves_failed c.args.steps.now c.is_met.new.steps 1 _ _ c.is_met.ensures.cost
-    (ap (λ l. to_try s t (after (after l more) k)) (unit p m ∙ ap (λ b. attempt b 1 (p + 1) m) (sym c.is_met.ensures.met ∙ c.if-not-is_met.true))
+    leaves_failed c.args.steps.now c.met_at.new.steps 1 _ _ c.met_at.ensures.cost
+    (ap (λ l. to_try s t (after (after l more) k)) (unit p m ∙ ap (λ b. attempt b 1 (p + 1) m) (sym c.met_at.ensures.met ∙ c.if-not-met_at.true))
     ∙ pile_fail s t.frames.items m t.choices.items 1 [])
 
 pub returns-then-room-eq0-clause-gives : goal.returns-then-room-eq0-clause-gives
@@ -43,13 +43,13 @@ returns-then-room-eq0-clause-gives g c =
     let m = (captures t.marks.items) in
     let n = node_of c.in-Some.node.now in
     let old = c.args.steps.now in
-    let new = c.is_met.new.steps in
+    let new = c.met_at.new.steps in
     let body : Next = paths c.args.body.now s in
     let more : Next = optional body false c.args.room (Some p) in
     let k : Next = run t.frames.items i s in
     let unit : IsUnit (meets n) s body = unit_body c.args.body.now n s c.in-Some.ensures.only c.in-Some.ensures.single in
     leaves_then old new new _ _ _
-    (once_met t s body more k (meets n) p old new m unit (optional_full body false c.args.room (Some p) (full c.args.body.now s)) (run_full t.frames.items i s) (sym c.is_met.ensures.met ∙ c.if-not-is_met.false) c.is_met.ensures.cost)
+    (once_met t s body more k (meets n) p old new m unit (optional_full body false c.args.room (Some p) (full c.args.body.now s)) (run_full t.frames.items i s) (sym c.met_at.ensures.met ∙ c.if-not-met_at.false) c.met_at.ensures.cost)
     (leaves_then new new new _ _ _
     (leaves_is new _ _ (ap (λ j. to_try s t (after (optional body false j (Some p) (p + 1) m) k)) c.if-room-eq0.true ∙ ap (to_try s t) (stay_after (p + 1) m k)))
     (leaves_then new new new _ _ _
@@ -66,7 +66,7 @@ returns-else-room-eq0-clause-gives g c =
     let m = (captures t.marks.items) in
     let n = node_of c.in-Some.node.now in
     let old = c.args.steps.now in
-    let new = c.is_met.new.steps in
+    let new = c.met_at.new.steps in
     let body : Next = paths c.args.body.now s in
     let more : Next = optional body false j (Some p) in
     let k : Next = run t.frames.items i s in
@@ -76,7 +76,7 @@ returns-else-room-eq0-clause-gives g c =
     let some : j ≡ 0 → ⊥ = λ e. omega (arith, e, c.if-room-eq0.false e) in
     gives_less c.once_later.result _ s _ old new new _ _
     (leaves_then old new new _ _ _
-    (once_met t s body more k (meets n) p old new m unit (optional_full body false j (Some p) (full c.args.body.now s)) (run_full t.frames.items i s) (sym c.is_met.ensures.met ∙ c.if-not-is_met.false) c.is_met.ensures.cost)
+    (once_met t s body more k (meets n) p old new m unit (optional_full body false j (Some p) (full c.args.body.now s)) (run_full t.frames.items i s) (sym c.met_at.ensures.met ∙ c.if-not-met_at.false) c.met_at.ensures.cost)
     (leaves_is new _ _ (ap (λ l. to_try s t (after l k)) (optional_either body false j (Some p) (p + 1) m some past)
     ∙ ap (to_try s t) (after-append (stay (p + 1) m) later k ∙ ap (λ l. l ++ after later k) (stay_after (p + 1) m k))
     ∙ ap (λ q. to_try s t (k q m ++ after (after (body q m) (optional body false (j - 1) (Some q))) k)) (sym c.skip.ensures.place))))

@@ -5,8 +5,8 @@ use Rattle.sre_match.proofs.matcher.search.tried_ends.Given as goal
 
 abbrev pub invariant-places : goal.invariant-places
 invariant-places g l = record {
-  same : next_span l.request.tree l.request.subject l.start.place (allowed_in l.request l.moves) ≡ next_span l.request.tree l.request.subject l.from.place (allowed_in l.request l.advance);
-  cost : l.steps + next_reads l.request.tree l.request.subject l.start.place (allowed_in l.request l.moves) ≤ l.fn.steps + next_reads l.request.tree l.request.subject l.from.place (allowed_in l.request l.advance);
+  same : next_span l.request.tree l.request.subject l.start.place (allowed_in l.request l.must_advance) ≡ next_span l.request.tree l.request.subject l.from.place (allowed_in l.request l.advance);
+  cost : l.steps + next_reads l.request.tree l.request.subject l.start.place (allowed_in l.request l.must_advance) ≤ l.fn.steps + next_reads l.request.tree l.request.subject l.from.place (allowed_in l.request l.advance);
   fits : g.S.StrDrive.fits l.request.subject l.start ≡ true;
 }
 

@@ -10,11 +10,11 @@ loop-n-preserved g c =
     let test = meets (node_of c.args.node.now) in
     let s = c.args.s.now in
     let p = c.args.cursor.now.place in
-    let met : met_at test s (p + c.loop-n.n) ≡ true = ap (met_at test s) (sym c.loop-n.invariant.place) ∙ sym c.is_met.ensures.met ∙ c.if-not-is_met.false in
+    let met : met_at test s (p + c.loop-n.n) ≡ true = ap (met_at test s) (sym c.loop-n.invariant.place) ∙ sym c.met_at.ensures.met ∙ c.if-not-met_at.false in
     let on = run_on test s p c.args.most c.loop-n.n (omega arith) met in
     record {
       run = omega (arith, c.loop-n.invariant.run, on.0);
-      cost = omega (arith, c.loop-n.invariant.cost, c.is_met.ensures.cost, on.1);
+      cost = omega (arith, c.loop-n.invariant.cost, c.met_at.ensures.cost, on.1);
       most = omega arith;
       place = omega (arith, c.skip.ensures.place, c.loop-n.invariant.place);
       fits = c.skip.ensures.fits;

@@ -3,8 +3,8 @@
 ghost use Rattle.sre_match.specs.Captures.{captures};
 ghost use Rattle.sre_match.specs.Fits.{Ready};
 ghost use Rattle.std.specs.Prelude.{◌≡◌, ◌≢◌, ◌+◌, ◌≤◌, ◌<◌, ℕ, [], ◌∷◌, true, Some, IfOk, IfSome, OnOk, option_map, length, slice_get};
-ghost use Rattle.sre_match.specs.Leads as spec;
-ghost use Rattle.sre_match.specs.Leads.{Begins, lead_tree};
+ghost use Rattle.sre_match.specs.FirstUnit as spec;
+ghost use Rattle.sre_match.specs.FirstUnit.{Begins, first_unit_tree};
 ghost use Rattle.sre_match.specs.Machine.{ahead_of, allowed_by, outcome_at, trying, Leaves};
 ghost use Rattle.sre_match.specs.Matches.{first_allowed, reads};
 ghost use Rattle.sre_match.specs.Paths.{paths};
@@ -12,8 +12,8 @@ ghost use Rattle.sre_code.specs.PlainTree.{branch, ◌then◌};
 ghost use Rattle.sre_code.specs.TreeView.{tree_of, trees_of};
 
 use crate::matcher::branches::known_turn;
+use crate::matcher::first_unit::FirstUnit;
 use crate::matcher::frames::put;
-use crate::matcher::leads::Lead;
 use crate::matcher::machine::{AllowedEnds, run_from};
 use crate::matcher::subject::Subject;
 use crate::matcher::trail::{Current, Part, Task, Trail, clear};
@@ -25,7 +25,7 @@ use std::sync::ledger::Ledger;
 
 // Alternatives are next that each begin with one unit, of which the one here is known, and then
 // nodes.
-fn each_turn<'t, S: StrDrive>(
+fn alternatives_turn<'t, S: StrDrive>(
     trees: &'t [Tree],
     more: &'t [Node],
     unit: u32,
@@ -35,8 +35,8 @@ fn each_turn<'t, S: StrDrive>(
 ) -> Result<(), AllocError>
     requires within { current.old.cursor.place < length s.now }
     requires unit { Some unit ≡ slice_get s.now current.old.cursor.place }
-    requires met { spec.may_lead (Lead.Each trees more) unit ≡ true }
-    requires begins { Begins (Lead.Each trees more) }
+    requires met { spec.meets_first (FirstUnit.Alternatives trees more) unit ≡ true }
+    requires begins { Begins (FirstUnit.Alternatives trees more) }
     requires ready { Ready (S.fits s.now) current.old trail.old }
     ensures gives { OnOk result ((n : ℕ) → Leaves n (n + 1)
         (trying (paths (branch (trees_of trees.entry.now) then tree_of more.entry.now) s.now)
@@ -57,9 +57,9 @@ fn each_turn<'t, S: StrDrive>(
     }
 }
 
-// The beginning of a tree is next, up to behind the unit here, which is known.
-fn lead_turn<'t, S: StrDrive>(
-    lead: &Lead<'t>,
+// The part of the tree after its first unit is next; that unit is known and is passed.
+fn candidate_turn<'t, S: StrDrive>(
+    first_unit: &FirstUnit<'t>,
     unit: u32,
     s: &Subject<'_, S>,
     current: &mut Current<'t>,
@@ -67,29 +67,31 @@ fn lead_turn<'t, S: StrDrive>(
 ) -> Result<(), AllocError>
     requires within { current.old.cursor.place < length s.now }
     requires unit { Some unit ≡ slice_get s.now current.old.cursor.place }
-    requires met { spec.may_lead lead.now unit ≡ true }
-    requires begins { Begins lead.now }
+    requires met { spec.meets_first first_unit.now unit ≡ true }
+    requires begins { Begins first_unit.now }
     requires ready { Ready (S.fits s.now) current.old trail.old }
     ensures gives { OnOk result ((n : ℕ) → Leaves n (n + 1)
-        (trying (paths (lead_tree lead.now) s.now) current.old s.now trail.old)
+        (trying (paths (first_unit_tree first_unit.now) s.now) current.old s.now trail.old)
         (ahead_of current.new s.now trail.new)) }
     ensures ready { OnOk result (Ready (S.fits s.now) current.new trail.new) }
 {
-    match lead {
-        Lead::One(_first, more) => {
+    match first_unit {
+        FirstUnit::Single(_node, more) => {
             current.part = Part::Nodes(more);
             s.skip(&mut current.cursor, 1);
             Ok(())
         }
-        Lead::Each(trees, more) => each_turn(trees, more, unit, s, current, trail),
+        FirstUnit::Alternatives(trees, more) => {
+            alternatives_turn(trees, more, unit, s, current, trail)
+        }
     }
 }
 
-/// The end of the first allowed outcome at a place, of which the unit was read and may be the first
-/// one. The trail then has its marks.
-pub fn find_led<'t, S: StrDrive, L: Ledger>(
+/// The end of the first allowed outcome at `start`, whose unit was read and meets the first unit of
+/// the tree. The trail then has its marks.
+pub fn find_at_candidate<'t, S: StrDrive, L: Ledger>(
     trail: &mut Trail<'t>,
-    lead: &Lead<'t>,
+    first_unit: &FirstUnit<'t>,
     unit: u32,
     s: &Subject<'_, S>,
     start: &StringCursor,
@@ -98,15 +100,15 @@ pub fn find_led<'t, S: StrDrive, L: Ledger>(
 ) -> Result<Option<StringCursor>, AllocError>
     requires within { start.now.place < length s.now }
     requires unit { Some unit ≡ slice_get s.now start.now.place }
-    requires met { spec.may_lead lead.now unit ≡ true }
-    requires begins { Begins lead.now }
+    requires met { spec.meets_first first_unit.now unit ≡ true }
+    requires begins { Begins first_unit.now }
     requires fits { S.fits s.now start.now ≡ true }
     requires counter { S.counts L.name }
     ensures fits { IfOk result (λ o. IfSome o (λ c. S.fits s.now c ≡ true)) }
     ensures found { IfOk result (λ o. option_map (outcome_at (captures trail.new.marks.items)) o
-        ≡ first_allowed (lead_tree lead.now) s.now start.now.place (allowed_by ends)) }
-    ensures cost { steps.new + 1
-        ≤ steps.old + reads (lead_tree lead.now) s.now start.now.place (allowed_by ends) }
+        ≡ first_allowed (first_unit_tree first_unit.now) s.now start.now.place (allowed_by ends)) }
+    ensures cost { steps.new + 1 ≤ steps.old
+        + reads (first_unit_tree first_unit.now) s.now start.now.place (allowed_by ends) }
 {
     clear(trail);
     let mut current = Current {
@@ -114,7 +116,7 @@ pub fn find_led<'t, S: StrDrive, L: Ledger>(
         rest: 0,
         cursor: *start,
     };
-    match lead_turn(lead, unit, s, &mut current, trail) {
+    match candidate_turn(first_unit, unit, s, &mut current, trail) {
         Err(_) => Err(AllocError),
         Ok(()) => run_from(current, trail, s, start.place, ends, steps),
     }

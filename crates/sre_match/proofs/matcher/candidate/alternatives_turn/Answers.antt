@@ -9,7 +9,7 @@ use Rattle.sre_match.proofs.BranchLemmas.{is_nil}
 use Rattle.sre_match.proofs.ChoiceLemmas.{on_ok}
 use Rattle.sre_match.proofs.LessLemmas.{leaves_then, leaves_is}
 use Rattle.sre_match.proofs.TurnLemmas.{node_first, node_last, run_full}
-use Rattle.sre_match.proofs.matcher.led.each_turn.Goals as goal
+use Rattle.sre_match.proofs.matcher.candidate.alternatives_turn.Goals as goal
 
 pub returns-in-empty-clause-gives : goal.returns-in-empty-clause-gives
 returns-in-empty-clause-gives g c =

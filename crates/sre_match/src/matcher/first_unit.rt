@@ -2,8 +2,8 @@
 
 ghost use Rattle.std.specs.Prelude.{◌≡◌, ◌≢◌, ◌+◌, ◌≤◌, ◌<◌, [], true, length, slice_get, IfSome};
 ghost use Rattle.sre_match.specs.Branches as branches;
-ghost use Rattle.sre_match.specs.Leads as spec;
-ghost use Rattle.sre_match.specs.Leads.{Begins, PassedOver, lead_tree};
+ghost use Rattle.sre_match.specs.FirstUnit as spec;
+ghost use Rattle.sre_match.specs.FirstUnit.{Begins, PassedOver, first_unit_tree};
 ghost use Rattle.sre_match.specs.Matches.{Allowed};
 ghost use Rattle.sre_code.specs.TreeView.{tree_of};
 
@@ -17,11 +17,11 @@ use std::sync::ledger::Ledger;
 
 /// How a tree begins, where each way through it first reads the unit here, and what comes then.
 #[derive(Clone, Copy)]
-pub enum Lead<'t> {
+pub enum FirstUnit<'t> {
     /// With one unit.
-    One(&'t Node, &'t [Node]),
+    Single(&'t Node, &'t [Node]),
     /// With alternatives that each begin with one unit.
-    Each(&'t [Tree], &'t [Node]),
+    Alternatives(&'t [Tree], &'t [Node]),
 }
 
 // Whether each alternative begins with one unit.
@@ -39,18 +39,19 @@ fn all_single(trees: &[Tree]) -> bool
 }
 
 /// How a tree of some nodes begins, where each way through it first reads the unit here.
-pub fn lead_of<'t>(nodes: &'t [Node]) -> Option<Lead<'t>>
-    ensures begins { IfSome result (λ lead. Begins lead) }
-    ensures tree { IfSome result (λ lead. tree_of nodes.entry.now ≡ lead_tree lead) }
+pub fn first_unit_of<'t>(nodes: &'t [Node]) -> Option<FirstUnit<'t>>
+    ensures begins { IfSome result (λ first_unit. Begins first_unit) }
+    ensures tree { IfSome result (λ first_unit.
+        tree_of nodes.entry.now ≡ first_unit_tree first_unit) }
 {
     match nodes {
         [] => None,
         [node, more @ ..] => {
             if is_single(node) {
-                return Some(Lead::One(node, more));
+                return Some(FirstUnit::Single(node, more));
             }
             match node {
-                Node::Branch(trees) => branch_lead(trees.trees(), more),
+                Node::Branch(trees) => first_unit_of_branch(trees.trees(), more),
                 _ => None,
             }
         }
@@ -58,45 +59,46 @@ pub fn lead_of<'t>(nodes: &'t [Node]) -> Option<Lead<'t>>
 }
 
 // How a tree begins that begins with alternatives.
-fn branch_lead<'t>(trees: &'t [Tree], more: &'t [Node]) -> Option<Lead<'t>>
+fn first_unit_of_branch<'t>(trees: &'t [Tree], more: &'t [Node]) -> Option<FirstUnit<'t>>
     requires { trees.now ≢ [] }
-    ensures each { IfSome result (λ lead. lead ≡ Lead.Each trees.entry more.entry) }
-    ensures begins { IfSome result (λ lead. Begins lead) }
+    ensures each { IfSome result (λ first_unit.
+        first_unit ≡ FirstUnit.Alternatives trees.entry more.entry) }
+    ensures begins { IfSome result (λ first_unit. Begins first_unit) }
 {
     if all_single(trees) {
-        Some(Lead::Each(trees, more))
+        Some(FirstUnit::Alternatives(trees, more))
     } else {
         None
     }
 }
 
 /// Whether a unit may be the first one.
-pub fn may_lead(lead: &Lead<'_>, unit: u32) -> bool
-    ensures { result ≡ spec.may_lead lead.now unit }
+pub fn meets_first(first_unit: &FirstUnit<'_>, unit: u32) -> bool
+    ensures { result ≡ spec.meets_first first_unit.now unit }
 {
-    match lead {
-        Lead::One(node, _) => meets(node, unit),
-        Lead::Each(trees, _) => !left_of(trees, Some(unit)).is_empty(),
+    match first_unit {
+        FirstUnit::Single(node, _) => meets(node, unit),
+        FirstUnit::Alternatives(trees, _) => !left_of(trees, Some(unit)).is_empty(),
     }
 }
 
-/// Moves a cursor on to the next place whose unit may be the first one, and answers that unit. The
-/// places before it are ruled out, and none is left where no unit is.
-pub fn next_lead<S: StrDrive, L: Ledger>(
-    lead: &Lead<'_>,
+/// Moves the cursor to the next place whose unit may be the first one, and answers that unit; at
+/// the end of the subject, none. No place that is passed has an allowed outcome.
+pub fn next_candidate<S: StrDrive, L: Ledger>(
+    first_unit: &FirstUnit<'_>,
     s: &Subject<'_, S>,
     cursor: &mut StringCursor,
     steps: &mut Steps<L>,
 ) -> Option<u32>
-    requires begins { Begins lead.now }
+    requires begins { Begins first_unit.now }
     requires fits { S.fits s.now cursor.old ≡ true }
     requires counter { S.counts L.name }
     ensures fits { S.fits s.now cursor.new ≡ true }
     ensures unit { result ≡ slice_get s.now cursor.new.place }
     ensures within { IfSome result (λ _. cursor.new.place < length s.now) }
-    ensures leads { IfSome result (λ unit. spec.may_lead lead.now unit ≡ true) }
+    ensures meets { IfSome result (λ unit. spec.meets_first first_unit.now unit ≡ true) }
     ensures passed { (a : Allowed)
-        → PassedOver (lead_tree lead.now) s.now cursor.old.place cursor.new.place a }
+        → PassedOver (first_unit_tree first_unit.now) s.now cursor.old.place cursor.new.place a }
     ensures onward { cursor.old.place ≤ cursor.new.place }
     ensures cost { steps.new + cursor.old.place ≤ steps.old + cursor.new.place + 1 }
 {
@@ -104,7 +106,7 @@ pub fn next_lead<S: StrDrive, L: Ledger>(
         let Some(unit) = unit_at(s, cursor, steps) else {
             return None;
         };
-        if may_lead(lead, unit) {
+        if meets_first(first_unit, unit) {
             return Some(unit);
         }
         s.skip(cursor, 1);

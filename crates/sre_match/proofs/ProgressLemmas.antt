@@ -1,4 +1,4 @@
--- Where a turn leads, and what it has cost.
+-- What a turn has come to, and what it has cost.
 use Rattle.sre_match.specs.Captures.{captures}
 use Rattle.std.proofs.Common.{◌≡◌, sym, ap, subst, ◌∙◌, ℕ, ◌+◌, ◌≤◌, Bool, true, false, List, [], ◌∷◌, length, arith}
 use Rattle.std.specs.Prelude.{Option, Some, Result, Ok, Err, IfOk}
@@ -11,7 +11,7 @@ use Rattle.sre_code.specs.PlainTree.{PlainTree}
 use Rattle.sre_match.specs.Attempts.{Attempt, passed, Marks, stay, chosen, cost_of}
 use Rattle.sre_match.specs.Paths.{paths}
 use Rattle.sre_match.specs.Matches.{Allowed, first_allowed, reads, is_allowed}
-use Rattle.sre_match.specs.Machine.{part_next, onward, to_try, pile, ahead_of, Sound, Less, Leaves, Ends, Gives, Leads}
+use Rattle.sre_match.specs.Machine.{part_next, onward, to_try, pile, ahead_of, Sound, Less, Leaves, Ends, Gives, Progresses}
 use Rattle.sre_match.proofs.AfterLemmas.{after_stay}
 use Rattle.sre_match.proofs.ChoiceLemmas.{pile_pass}
 use Rattle.sre_match.proofs.LessLemmas.{less_less, chosen_first, chosen_later, cost_later}
@@ -20,28 +20,28 @@ use Rattle.sre_match.proofs.NextSpanLemmas.{first_within, reads_there}
 pub less_ends : (ok : ℕ → Bool) (old mid new : ℕ) (xs ys : List Attempt) (o : Option (ℕ × Marks)) → Less ok old mid xs ys → Ends ok mid new ys o → Ends ok old new xs o
 less_ends ok old mid new xs ys o h k = record { same = h.same ∙ k.same; cost = omega (arith, h.cost, k.cost) }
 
--- what leads somewhere, after what leaves it
-pub leads_less : (x : Progress) (a : Current) (ok : ℕ → Bool) (s : List ℕ) (t : Trail) (old mid new : ℕ) (xs ys : List Attempt) → Less ok old mid xs ys → Leads x a ok s t mid new ys → Leads x a ok s t old new xs
-leads_less More a ok s t old mid new xs ys h k = less_less ok old mid new xs ys _ h k
-leads_less Found a ok s t old mid new xs ys h k = less_ends ok old mid new xs ys _ h k
-leads_less Nothing a ok s t old mid new xs ys h k = less_ends ok old mid new xs ys _ h k
-leads_less NoMemory a ok s t old mid new xs ys h k = omega (arith, h.cost, k)
+-- what comes to something, after what leaves it
+pub progress_less : (x : Progress) (a : Current) (ok : ℕ → Bool) (s : List ℕ) (t : Trail) (old mid new : ℕ) (xs ys : List Attempt) → Less ok old mid xs ys → Progresses x a ok s t mid new ys → Progresses x a ok s t old new xs
+progress_less More a ok s t old mid new xs ys h k = less_less ok old mid new xs ys _ h k
+progress_less Found a ok s t old mid new xs ys h k = less_ends ok old mid new xs ys _ h k
+progress_less Nothing a ok s t old mid new xs ys h k = less_ends ok old mid new xs ys _ h k
+progress_less NoMemory a ok s t old mid new xs ys h k = omega (arith, h.cost, k)
 
 -- a match at the end of the tree
 at_end : (s : List ℕ) (t : Trail) (p : ℕ) → Sound t → t.levels ≡ 0 → to_try s t (stay p (captures t.marks.items)) ≡ passed 0 p (captures t.marks.items) ∷ to_try s t []
 at_end s t p h z = pile_pass s t.frames.items (captures t.marks.items) t.choices.items p (captures t.marks.items) [] (sym h.inside ∙ z)
 
-pub leads_found : (a : Current) (ok : ℕ → Bool) (s : List ℕ) (t : Trail) (old new : ℕ) (before : List Attempt) → Sound t → Gives Done a s t old new before → ok a.cursor.place ≡ true
+pub progress_found : (a : Current) (ok : ℕ → Bool) (s : List ℕ) (t : Trail) (old new : ℕ) (before : List Attempt) → Sound t → Gives Done a s t old new before → ok a.cursor.place ≡ true
     → Ends ok old new before (Some (a.cursor.place, (captures t.marks.items)))
-leads_found a ok s t old new before h g e = record {
+progress_found a ok s t old new before h g e = record {
   same = (g.0 ok).same ∙ ap (chosen ok) (at_end s t a.cursor.place h g.1) ∙ chosen_first (ok a.cursor.place) (a.cursor.place, (captures t.marks.items)) (chosen ok (to_try s t [])) e;
   cost = omega (arith, (g.0 ok).cost);
 }
 
-pub leads_skip : (x : Progress) (a b : Current) (ok : ℕ → Bool) (s : List ℕ) (t r : Trail) (old new : ℕ) (before : List Attempt) → Sound t → Gives Done a s t old new before → ok a.cursor.place ≡ false
-    → Leads x b ok s r new new (to_try s t []) → Leads x b ok s r old new before
-leads_skip x a b ok s t r old new before h g e l =
-    leads_less x b ok s r old new new before (to_try s t [])
+pub progress_skip : (x : Progress) (a b : Current) (ok : ℕ → Bool) (s : List ℕ) (t r : Trail) (old new : ℕ) (before : List Attempt) → Sound t → Gives Done a s t old new before → ok a.cursor.place ≡ false
+    → Progresses x b ok s r new new (to_try s t []) → Progresses x b ok s r old new before
+progress_skip x a b ok s t r old new before h g e l =
+    progress_less x b ok s r old new new before (to_try s t [])
     (record {
       same = (g.0 ok).same ∙ ap (chosen ok) (at_end s t a.cursor.place h g.1) ∙ chosen_later (ok a.cursor.place) (a.cursor.place, (captures t.marks.items)) (chosen ok (to_try s t [])) e;
       cost = omega (arith, (g.0 ok).cost, ap (cost_of ok) (at_end s t a.cursor.place h g.1), cost_later (ok a.cursor.place) (cost_of ok (to_try s t [])) e);

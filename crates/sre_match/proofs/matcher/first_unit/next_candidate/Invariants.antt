@@ -1,11 +1,11 @@
 use Rattle.std.proofs.Common.{◌≡◌, ◌-◌, ◌+◌, ◌≤◌, true, length}
-use Rattle.sre_match.specs.Leads.{lead_tree, PassedOver}
+use Rattle.sre_match.specs.FirstUnit.{first_unit_tree, PassedOver}
 use Rattle.sre_match.specs.Matches.{Allowed}
-use Rattle.sre_match.proofs.matcher.leads.next_lead.Given as goal
+use Rattle.sre_match.proofs.matcher.first_unit.next_candidate.Given as goal
 
 abbrev pub invariant-units : goal.invariant-units
 invariant-units g l = record {
-  passed : (a : Allowed) → PassedOver (lead_tree l.lead) l.s l.fn.cursor.place l.cursor.place a;
+  passed : (a : Allowed) → PassedOver (first_unit_tree l.first_unit) l.s l.fn.cursor.place l.cursor.place a;
   onward : l.fn.cursor.place ≤ l.cursor.place;
   fits : g.S.StrDrive.fits l.s l.cursor ≡ true;
   cost : l.steps + l.fn.cursor.place ≤ l.fn.steps + l.cursor.place;
