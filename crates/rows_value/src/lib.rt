@@ -1,11 +1,19 @@
-//! Tests of py_value: values, how they are copied and dropped, hosts, and look-ups.
+//! Tests of py_value: values, how they are copied and dropped, hosts, look-ups, and printing.
 #![tactic(auto)]
 
+#[cfg(test)]
+mod deep;
 #[cfg(test)]
 mod dropped;
 #[cfg(test)]
 mod hosts;
 #[cfg(test)]
 mod looked_up;
+#[cfg(test)]
+mod made;
+#[cfg(test)]
+mod nested;
+#[cfg(test)]
+mod printed;
 #[cfg(test)]
 mod values;
