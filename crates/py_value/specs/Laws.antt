@@ -1,9 +1,9 @@
 -- Laws of calls with a host.
-use Rattle.std.specs.Prelude.{◌≡◌, ◌⊎◌, Bool, List, ℕ, true, false, Some, Result, Err}
+use Rattle.std.specs.Prelude.{◌≡◌, ◌⊎◌, ◌++◌, Bool, List, ℕ, true, false, Some, Result, Err}
 use Rattle.py_base.specs.Stream.Faults.{Rose}
 use Rattle.py_base.specs.declared.error.PyError.{PyError}
 use Rattle.py_base.specs.declared.error.PyError.TheVariants.{NoMemory, HostFault}
-use Rattle.py_value.specs.Asking.{Asking, Answers, Seen, Table, by_table, silent, Fails}
+use Rattle.py_value.specs.Asking.{Asking, Answers, Seen, Question, Table, by_table, questions, silent, Fails}
 use Rattle.py_value.specs.declared.value.DictKey.{DictKey}
 use Rattle.py_value.specs.Dict.{same_key, lookup, put}
 use Rattle.py_value.specs.Lookup.{item, item_error, attr, attr_error}
@@ -18,6 +18,19 @@ AnswersTheTable A = (call : Asking A) (old new : Seen) (t : Table) (result : Res
 abbrev pub AnswersAlone : Type 0 → Type 0
 AnswersAlone A = (call : Asking A) (old new : Seen) (t : Table) (result : Result A PyError) → Answers call old new result → silent call ≡ true
     → (result ≡ by_table t call) ⊎ (result ≡ Err NoMemory)
+
+-- a host that keeps its questions was asked those of the definition, in their order, where nothing failed
+abbrev pub AsksInOrder : Type 0 → Type 0
+AsksInOrder A =
+    (call : Asking A) (old new : Seen) (t : Table) (qs : List Question) (result : Result A PyError)
+    → Answers call old new result → old.table ≡ Some t → old.asked ≡ Some qs
+    → (new.asked ≡ Some (qs ++ questions t call)) ⊎ (result ≡ Err NoMemory) ⊎ (result ≡ Err HostFault)
+
+-- a call that asks nothing leaves what is seen of a host as it was, unless memory ran out
+abbrev pub LeavesAlone : Type 0 → Type 0
+LeavesAlone A =
+    (call : Asking A) (old new : Seen) (result : Result A PyError)
+    → Answers call old new result → silent call ≡ true → (new ≡ old) ⊎ (result ≡ Err NoMemory)
 
 -- a value without handles is looked into without a question
 abbrev pub BareIsSilent : Type 0

@@ -2,6 +2,8 @@
 #![tactic(auto)]
 
 #[cfg(test)]
+mod copied;
+#[cfg(test)]
 mod deep;
 #[cfg(test)]
 mod dropped;
@@ -9,6 +11,8 @@ mod dropped;
 mod hosts;
 #[cfg(test)]
 mod looked_up;
+#[cfg(test)]
+mod lookup_errors;
 #[cfg(test)]
 mod made;
 #[cfg(test)]

@@ -12,7 +12,7 @@ impl Host for NoHost {
     ghost use Rattle.std.specs.Prelude.{◌≡◌, Ok, Some, None, false};
     ghost use Rattle.py_value.specs.NoHost.{no_table};
 
-    ghost seen = { λ _. record { table = Some no_table; faults = 0 } };
+    ghost seen = { λ _. record { table = Some no_table; faults = 0; asked = None } };
 
     fn has_getitem(&self, _handle: u64) -> bool
         ensures none { result ≡ false }
