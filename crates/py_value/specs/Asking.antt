@@ -85,8 +85,8 @@ pub record Tells (h : ℕ) (m : HostMethod) (k : Plain) (old new : Seen)
   pub noted : IfSome old.asked
       (λ qs. UnlessHostRanOut result (new.asked ≡ Some (qs ++ (question h m k ∷ []))))
 
--- the call's questions were asked, one after the other and no others, and the result is what it comes
--- to by their answers; or the last one of them failed
+-- the call's questions were asked, one after the other and no others, and the result is what it
+-- comes to by their answers; or the last one of them failed
 abbrev pub Comes : {A : Type 0} → Seen → Seen → Asking A → Result A PyError → Type 0
 Comes old new (gives r) result = (result ≡ r) × (new ≡ old)
 Comes old new (asks h m k next) result =
@@ -111,7 +111,8 @@ Meets want result = MeetsUnless no_memory want result
 
 -- what a call with a host promises: the table is as before, the count of faults did not fall, and
 -- the result is one that the definition comes to
-pub record Answers {A : Type 0} (call : Asking A) (old new : Seen) (result : Result A PyError) : Type 0 where
+pub record Answers {A : Type 0} (call : Asking A) (old new : Seen)
+    (result : Result A PyError) : Type 0 where
   pub kept : new.table ≡ old.table
   pub later : old.faults ≤ new.faults
   pub comes : UnlessOutOfMemory result (Comes old new call result)

@@ -19,12 +19,14 @@ abbrev pub AnswersAlone : Type 0 → Type 0
 AnswersAlone A = (call : Asking A) (old new : Seen) (t : Table) (result : Result A PyError) → Answers call old new result → silent call ≡ true
     → (result ≡ by_table t call) ⊎ (result ≡ Err NoMemory)
 
--- a host that keeps its questions was asked those of the definition, in their order, where nothing failed
+-- a host that keeps its questions was asked those of the definition, in their order, where nothing
+-- failed
 abbrev pub AsksInOrder : Type 0 → Type 0
 AsksInOrder A =
     (call : Asking A) (old new : Seen) (t : Table) (qs : List Question) (result : Result A PyError)
     → Answers call old new result → old.table ≡ Some t → old.asked ≡ Some qs
-    → (new.asked ≡ Some (qs ++ questions t call)) ⊎ (result ≡ Err NoMemory) ⊎ (result ≡ Err HostFault)
+    → (new.asked ≡ Some (qs ++ questions t call)) ⊎ (result ≡ Err NoMemory)
+    ⊎ (result ≡ Err HostFault)
 
 -- a call that asks nothing leaves what is seen of a host as it was, unless memory ran out
 abbrev pub LeavesAlone : Type 0 → Type 0
