@@ -71,8 +71,8 @@ pub asked_in_vain : {A : Type 0} {h : ℕ} {m : HostMethod} {k : Plain} {next : 
 asked_in_vain tells = record { kept = tells.kept; later = tells.later; comes = inl (tells, refl) }
 
 -- a handle was tested, and the call goes on by that
-pub tested : {A : Type 0} {h : ℕ} {next : Bool → Asking A} {b : Bool} {r : Result A PyError} {s0 s1 : Seen} → IfSome s0.table (λ t. t.has_items h ≡ b) → Answers (next b) s0 s1 r → Answers (tests h next) s0 s1 r
-tested {h = h} {next = next} {b = b} {r = r} {s0 = s0} {s1 = s1} told more = record {
+pub tested : {A : Type 0} {h : ℕ} {next : Bool → Asking A} (b : Bool) {r : Result A PyError} {s0 s1 : Seen} → IfSome s0.table (λ t. t.has_items h ≡ b) → Answers (next b) s0 s1 r → Answers (tests h next) s0 s1 r
+tested {h = h} {next = next} b {r = r} {s0 = s0} {s1 = s1} told more = record {
   kept = more.kept;
   later = more.later;
   comes = unless_map r (Comes s0 s1 (next b) r) (Comes s0 s1 (tests h next) r) (λ c. (b, told, c)) more.comes;

@@ -8,9 +8,5 @@ pub returns-in-Ok-Some : goal.returns-in-Ok-Some
 returns-in-Ok-Some g c =
     asked {next = λ a. gives (handle_after c.args.out.now c.args.handle a)} {a = Some c.in-Ok-Some.answer} (rw c.in-Ok-Some.field-0-is at c.in-Ok-Some.ensures) (asks_nothing c.put_text.ensures)
 
-pub returns-in-Ok-None : goal.returns-in-Ok-None
-returns-in-Ok-None g c =
-    asked {next = λ a. gives (handle_after c.args.out.now c.args.handle a)} {a = None} (rw c.in-Ok-None.field-0-is at c.in-Ok-None.ensures) (asks_nothing (ap Ok c.in_ok-put_object.ensures.ok))
-
 pub returns-in-Err-Failed : goal.returns-in-Err-Failed
 returns-in-Err-Failed g c = asked_in_vain (rw c.in-Err-Failed.field-0-is at c.in-Err-Failed.ensures)
