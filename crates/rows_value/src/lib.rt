@@ -1,6 +1,9 @@
-//! Tests of py_value: values, how they are copied and dropped, hosts, look-ups, and printing.
+//! Tests of py_value: values, how they are copied and dropped, hosts, look-ups, printing, and texts
+//! that values change.
 #![tactic(auto)]
 
+#[cfg(test)]
+mod affixes;
 #[cfg(test)]
 mod copied;
 #[cfg(test)]
@@ -19,5 +22,7 @@ mod made;
 mod nested;
 #[cfg(test)]
 mod printed;
+#[cfg(test)]
+mod translated;
 #[cfg(test)]
 mod values;
