@@ -1,6 +1,7 @@
 #!/usr/bin/env python3
 """Writes crates/rows_value/src/nested.rt: nested values made by chance, and what CPython's `repr`
-and `ascii` make of them. Run it at the top of the repository, and then `rt fmt` in that crate."""
+and `ascii` make of them, and `str`, which makes of a tuple, a list or a dict what `repr` does. Run it
+at the top of the repository, and then `rt fmt` in that crate."""
 
 import argparse
 import random
@@ -83,6 +84,8 @@ def write_rows():
         v = value(chance, 3)
         made = steps(v)
         if len(made) > STEPS or len(made) < 9:
+            continue
+        if str(v) != repr(v):
             continue
         made = ["Step::None"] * (STEPS - len(made)) + made
         rows.append("    (\n        [%s],\n        %s,\n        %s,\n    ),\n"

@@ -21,6 +21,8 @@ mod made;
 #[cfg(test)]
 mod nested;
 #[cfg(test)]
+mod noting;
+#[cfg(test)]
 mod printed;
 #[cfg(test)]
 mod translated;
