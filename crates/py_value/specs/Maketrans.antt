@@ -40,9 +40,14 @@ put_key (Int z) v made = Ok (put (Int z) v made)
 put_key (Str cs) v made = put_under (only_char cs) v made
 put_key (Bytes bs) v made = Ok made
 
+-- what goes on with a table, or the error
+abbrev pub on_made : Result Entries PyError → (Entries → Result Entries PyError) → Result Entries PyError
+on_made (Ok made) f = f made
+on_made (Err e) f = Err e
+
 abbrev pub put_keys : Entries → Entries → Result Entries PyError
 put_keys no_entries made = Ok made
-put_keys (entry k v es) made = elim (put_key k v made) [ Ok more ↦ put_keys es more | Err e ↦ Err e ]
+put_keys (entry k v es) made = on_made (put_key k v made) (λ more. put_keys es more)
 
 abbrev pub maketrans : Plain → Option (List ℕ) → Option (List ℕ) → Result Entries PyError
 maketrans (str cs) (Some ds) dropped =

@@ -9,18 +9,11 @@ ghost use Rattle.py_value.specs.Plain.{no_entries};
 ghost use Rattle.py_value.specs.ValueView.{plain_of};
 ghost use Rattle.py_value.specs.declared.value.DictKey.TheVariants.{Int as IntKey};
 
+use crate::translate::code_of;
 use crate::value::{DictItem, DictKey, PyDict, Value};
 use py_base::{MaketransKind, OptionalArg, PyError, PyResult};
-use py_int::PyInt;
 use py_text::PyStr;
 use std::alloc::Global;
-
-// The code point as an integer.
-fn code_of(c: char) -> PyInt
-    ensures { result ≡ pos c }
-{
-    PyInt::from(i128::from(c as u32))
-}
 
 // Puts the value under the code point.
 fn put_char(table: &mut PyDict, c: char, value: Value) -> PyResult<()>

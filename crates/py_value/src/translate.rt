@@ -1,6 +1,6 @@
 //! Texts whose characters a table replaces.
 
-ghost use Rattle.std.specs.Prelude.{◌≡◌, chars};
+ghost use Rattle.std.specs.Prelude.{◌≡◌, pos, chars};
 ghost use Rattle.py_value.specs.Asking.{Comes, Meets};
 ghost use Rattle.py_value.specs.Printing.{written};
 ghost use Rattle.py_value.specs.Translate as spec;
@@ -31,6 +31,13 @@ fn test_items<H: Host>(host: &H, table: &Value) -> PyResult<()>
         }
         _ => Err(PyError::NotSubscriptable(table.class())),
     }
+}
+
+/// The code point of a character as an integer.
+pub(crate) fn code_of(c: char) -> PyInt
+    ensures { result ≡ pos c }
+{
+    PyInt::from(i128::from(c as u32))
 }
 
 // The character of a number.
@@ -83,7 +90,7 @@ fn put_looked_up<H: Host>(
     ensures { spec.Puts (plain_of table.now) c out.old
         (H.seen host.old) (H.seen host.new) (written result out.new) }
 {
-    let key = Value::Int(PyInt::from(i128::from(c as u32)));
+    let key = Value::Int(code_of(c));
     match get_item(alloc, host, table, &key) {
         Ok(found) => put_found(out, &found),
         Err(PyError::NoMemory) => Err(PyError::NoMemory),
