@@ -41,7 +41,8 @@ put_key (Str cs) v made = put_under (only_char cs) v made
 put_key (Bytes bs) v made = Ok made
 
 -- what goes on with a table, or the error
-abbrev pub on_made : Result Entries PyError → (Entries → Result Entries PyError) → Result Entries PyError
+abbrev pub on_made : Result Entries PyError → (Entries → Result Entries PyError)
+    → Result Entries PyError
 on_made (Ok made) f = f made
 on_made (Err e) f = Err e
 

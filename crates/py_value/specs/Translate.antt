@@ -39,7 +39,8 @@ put_found out (bool b) = put_char out (char_of (int_of_bool b))
 put_found out (int z) = put_char out (char_of z)
 put_found out v = Err (Translate Kind)
 
--- and with a character that was looked up; it is kept where the look-up failed, unless memory ran out
+-- and with a character that was looked up; it is kept where the look-up failed, unless memory ran
+-- out
 abbrev pub put_looked_up : ℕ → List ℕ → Result Plain PyError → Result (List ℕ) PyError
 put_looked_up c out (Ok v) = put_found out v
 put_looked_up c out (Err e) = if no_memory e then Err NoMemory else Ok (out ++ c ∷ [])
@@ -81,7 +82,8 @@ pub record Translates (v : Plain) (cs : List ℕ) (old new : Seen)
       (λ e. (result ≡ Err e) × (new ≡ old)))
 
 -- what goes on with a text, or the error
-abbrev pub on_text : Result (List ℕ) PyError → (List ℕ → Result (List ℕ) PyError) → Result (List ℕ) PyError
+abbrev pub on_text : Result (List ℕ) PyError → (List ℕ → Result (List ℕ) PyError)
+    → Result (List ℕ) PyError
 on_text (Ok out) f = f out
 on_text (Err e) f = Err e
 
@@ -107,7 +109,8 @@ put_marked t v false c out = put_looked_up c out (by_table t (item v (int (pos c
 
 abbrev pub put_by : Table → Plain → List Bool → List ℕ → List ℕ → Result (List ℕ) PyError
 put_by t v ms [] out = Ok out
-put_by t v ms (c ∷ cs) out = on_text (put_marked t v (first_mark ms) c out) (λ more. put_by t v (other_marks ms) cs more)
+put_by t v ms (c ∷ cs) out =
+    on_text (put_marked t v (first_mark ms) c out) (λ more. put_by t v (other_marks ms) cs more)
 
 -- the whole text by a table of the host
 abbrev pub tested_by : Result (Unit {0}) PyError → Result (List ℕ) PyError → Result (List ℕ) PyError

@@ -6,8 +6,8 @@ use Rattle.py_value.specs.Asking.{Seen, Table}
 use Rattle.py_value.specs.Plain.{Plain, bare}
 use Rattle.py_value.specs.Translate.{Translates, translated_by, set_marks, RoseBy}
 
--- where the host tells its table, a translated text is the table's; a character whose look-up failed
--- for a fault is kept, and there are at most as many of these as the count rose by
+-- where the host tells its table, a translated text is the table's; a character whose look-up
+-- failed for a fault is kept, and there are at most as many of these as the count rose by
 abbrev pub TranslatesByTheTable : Type 0
 TranslatesByTheTable =
     (t : Table) (v : Plain) (cs : List ℕ) (old new : Seen) (result : Result (List ℕ) PyError)

@@ -43,7 +43,8 @@ pub trait StrValues {
         start: Option<i128>,
         end: Option<i128>,
     ) -> PyResult<bool>
-        ensures { result ≡ spec.starts_with_value (points self.now) (plain_of affix.now) start end };
+        ensures { result
+            ≡ spec.starts_with_value (points self.now) (plain_of affix.now) start end };
 
     /// The same at the end of the window. (Python Library Reference, String Methods,
     /// `str.endswith`.)
@@ -53,7 +54,8 @@ pub trait StrValues {
         start: Option<i128>,
         end: Option<i128>,
     ) -> PyResult<bool>
-        ensures { result ≡ spec.ends_with_value (points self.now) (plain_of affix.now) start end };
+        ensures { result
+            ≡ spec.ends_with_value (points self.now) (plain_of affix.now) start end };
 
     /// The text with each character replaced by what the table has for its code point: a text, the
     /// character of an integer, or nothing for None. A character whose look-up fails is kept.

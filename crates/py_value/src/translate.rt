@@ -16,7 +16,8 @@ use std::alloc::Global;
 
 // Tests that the value has items.
 fn test_items<H: Host>(host: &H, table: &Value) -> PyResult<()>
-    ensures { Comes (H.seen host.now) (H.seen host.now) (spec.has_items (plain_of table.now)) result }
+    ensures { Comes (H.seen host.now) (H.seen host.now)
+        (spec.has_items (plain_of table.now)) result }
 {
     match table {
         Value::Str(_) | Value::Bytes(_) | Value::Tuple(_) | Value::List(_) | Value::Dict(_) => Ok(
