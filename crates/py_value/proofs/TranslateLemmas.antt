@@ -49,7 +49,8 @@ then_more v c cs out mid s0 s1 s2 r one more = record {
 
 one_stops : (v : Plain) (c : ℕ) (cs out : List ℕ) (s0 s1 : Seen) (e : PyError) → ((x : Result Plain PyError) × Answers (item v (int (pos c))) s0 s1 x × (Err e ≡ put_looked_up c out x)) → Goes v (c ∷ cs) out s0 s1 (Err e)
 one_stops v c cs out s0 s1 e p =
-    (p.0, s1, p.1, subst (λ (x : Result (List ℕ) PyError). MatchResult x (λ more. Goes v cs more s1 s1 (Err e)) (λ d. (Err e ≡ Err d) × (s1 ≡ s1))) p.2 (refl, refl))
+    let r : Result (List ℕ) PyError = Err e in
+    (p.0, s1, p.1, subst (λ (x : Result (List ℕ) PyError). MatchResult x (λ more. Goes v cs more s1 s1 r) (λ d. (r ≡ Err d) × (s1 ≡ s1))) p.2 (refl, refl))
 
 -- a character at which it ended
 pub stops : (v : Plain) (c : ℕ) (cs out : List ℕ) (s0 s1 : Seen) (e : PyError) → Puts v c out s0 s1 (Err e) → GoesOn v (c ∷ cs) out s0 s1 (Err e)

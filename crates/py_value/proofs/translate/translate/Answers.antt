@@ -5,7 +5,7 @@ use Rattle.py_value.proofs.translate.translate.Goals as goal
 
 pub returns-in_err-test_items : goal.returns-in_err-test_items
 returns-in_err-test_items g c =
-    let p = err_from_is_err_and c.from_residual-in_err-test_items.result c.from_residual-in_err-test_items.ensures.1 in
+    let p = err_from_is_err_and c.from_residual.result c.from_residual.ensures.1 in
     rw (p.1, p.2) (not_tested c.in_err-test_items.ensures)
 
 pub returns-in_err-put_all : goal.returns-in_err-put_all

@@ -6,11 +6,11 @@ use Rattle.py_value.proofs.affix.Place.some_fits.Goals as goal
 
 pub loop-affix-preserved : goal.loop-affix-preserved
 loop-affix-preserved c =
-    (fits_next (fits c.args.self.now c.args.text.now) c.deref-affix-items.result.now c.loop-affix.affix-index c.affix-item.result c.loop-affix-test.true c.affix-item.is (rw c.if-text_fits.false at c.in_ok-text_fits.ensures) ∙ c.loop-affix.invariant.0, c.loop-affix.invariant.1)
+    (fits_next (fits c.args.self.now c.args.text.now) c.deref-affix-items.result.now c.loop-affix.affix-index c.affix-item.result c.loop-affix-test.true c.affix-item.is (rw c.if-branch.false at c.in_ok-text_fits.ensures) ∙ c.loop-affix.invariant.0, c.loop-affix.invariant.1)
 
-pub returns-then-text_fits : goal.returns-then-text_fits
-returns-then-text_fits c =
-    fits_here (fits c.args.self.now c.args.text.now) c.deref-affix-items.result.now c.loop-affix.affix-index c.affix-item.result c.loop-affix-test.true c.affix-item.is (rw c.if-text_fits.true at c.in_ok-text_fits.ensures) ∙ c.loop-affix.invariant.0
+pub returns-then-branch : goal.returns-then-branch
+returns-then-branch c =
+    fits_here (fits c.args.self.now c.args.text.now) c.deref-affix-items.result.now c.loop-affix.affix-index c.affix-item.result c.loop-affix-test.true c.affix-item.is (rw c.if-branch.true at c.in_ok-text_fits.ensures) ∙ c.loop-affix.invariant.0
 
 pub returns-in_err-text_fits : goal.returns-in_err-text_fits
 returns-in_err-text_fits c =
