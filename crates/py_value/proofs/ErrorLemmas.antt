@@ -1,5 +1,6 @@
 -- Which errors a call may come to.
 use Rattle.std.proofs.Common.{◌≡◌, ◌∙◌, ◌⊎◌, ℕ, zero, suc, Bool, true, false, cond, nat_le, codes, List, [], ◌++◌, Option, Some, None, Result, Ok, Err, refl, sym, ap, inl, inr, subst}
+use Rattle.std.specs.Option.{option_map}
 use Rattle.std.specs.Prelude.{ok_or}
 use Rattle.py_base.specs.Stream.Faults.{Rose}
 use Rattle.py_base.specs.declared.error.PyError.{PyError}
@@ -11,12 +12,17 @@ use Rattle.py_value.specs.Lookup.{item, index_of, text_item, bytes_item, list_it
 use Rattle.py_value.specs.Dict.{lookup}
 use Rattle.py_value.specs.declared.host.HostMethod.TheVariants.{GetItem}
 use Rattle.py_value.specs.Plain.{Plain, Plains, Entries, none, bool, int, str, bytes, tuple, list, dict, handle, empty, ◌then◌, no_entries, entry, depth}
+use Rattle.py_value.specs.ValueView.{plain_of}
+use Rattle.py_value.proofs.AskingLemmas.{rose_from}
 
 comes_named : {A : Type 0} (p : PyError → Bool) (call : Asking A) (e : PyError) (s0 s1 : Seen) → Fails p call → Comes s0 s1 call (Err e) → (p e ≡ true) ⊎ ((e ≡ HostFault) × Rose s0.faults s1.faults)
-comes_named p (gives (Ok a)) e s0 s1 r h = absurd (cc)
-comes_named p (gives (Err d)) e s0 s1 r h = let is : d ≡ e = cc in inl (subst (λ x. p x ≡ true) is r)
-comes_named p (asks q m k next) e s0 s1 r (inl (is, rose)) = inr (cc, rose)
-comes_named p (asks q m k next) e s0 s1 r (inr (a, told, h)) = comes_named p (next a) e s0 s1 (r a) h
+comes_named p (gives (Ok a)) e s0 s1 r h = absurd (cc h.0)
+comes_named p (gives (Err d)) e s0 s1 r h = let is : d ≡ e = cc h.0 in inl (subst (λ x. p x ≡ true) is r)
+comes_named p (asks q m k next) e s0 s1 r (inl (tells, is)) = inr (let same : e ≡ HostFault = cc is in same, tells.failed refl)
+comes_named p (asks q m k next) e s0 s1 r (inr (mid, a, tells, h)) = elim (comes_named p (next (option_map plain_of a)) e mid s1 (r (option_map plain_of a)) h) [
+  | inl is ↦ inl is
+  | inr fault ↦ inr (fault.0, rose_from s0.faults mid.faults s1.faults tells.later fault.1)
+]
 comes_named p (tests q next) e s0 s1 r (b, told, h) = comes_named p (next b) e s0 s1 (r b) h
 
 later : {P Q R : Type 0} → P ⊎ R → P ⊎ (Q ⊎ R)

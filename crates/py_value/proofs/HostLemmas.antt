@@ -15,4 +15,5 @@ failed_tells h m k old new after later rose = record {
   later = later;
   failed = λ e. rose;
   told = tt;
+  noted = tt;
 }

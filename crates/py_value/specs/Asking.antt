@@ -1,5 +1,5 @@
 -- What a call asks a host, and what it answers then.
-use Rattle.std.specs.Prelude.{◌≡◌, ◌≢◌, ◌≤◌, ◌↔◌, ◌⊎◌, ℕ, Bool, true, false, IsTrue, Option, Some, None, IfSome, IsSome, Result, Ok, Err, IfOk}
+use Rattle.std.specs.Prelude.{◌≡◌, ◌≢◌, ◌≤◌, ◌↔◌, ◌⊎◌, ℕ, Bool, true, false, IsTrue, List, [], ◌∷◌, ◌++◌, Option, Some, None, IfSome, IsSome, Result, Ok, Err, IfOk}
 use Rattle.std.specs.Option.{option_map}
 use Rattle.py_base.specs.Reading.{UnlessNoMemory, MeetsUnless}
 use Rattle.py_base.specs.Stream.Faults.{Rose}
@@ -9,7 +9,7 @@ use Rattle.py_value.specs.declared.value.Value.{Value}
 use Rattle.py_value.specs.declared.host.HostMethod.{HostMethod}
 use Rattle.py_value.specs.declared.host.HostMethod.TheVariants.{GetItem}
 use Rattle.py_value.specs.declared.host.HostAnswer.{HostAnswer}
-use Rattle.py_value.specs.declared.host.HostAnswer.TheVariants.{Failed}
+use Rattle.py_value.specs.declared.host.HostAnswer.TheVariants.{Failed, NoMemory as RanOut}
 use Rattle.py_value.specs.Plain.{Plain}
 use Rattle.py_value.specs.ValueView.{plain_of}
 
@@ -20,10 +20,21 @@ pub record Table : Type 0 where
   pub has_items : ℕ → Bool
   pub lawful : (h : ℕ) → IsTrue (has_items h) ↔ ((k : Plain) × IsSome (answer h GetItem k))
 
--- what contracts see of a host: its table, where it tells one, and how often it has failed
+-- one question to a host
+pub record Question : Type 0 where
+  pub handle : ℕ
+  pub method : HostMethod
+  pub key : Plain
+
+abbrev pub question : ℕ → HostMethod → Plain → Question
+question h m k = record { handle = h; method = m; key = k }
+
+-- what contracts see of a host: its table, where it tells one, how often it has failed, and which
+-- questions it was asked, the first one first, where it keeps them
 pub record Seen : Type 0 where
   pub table : Option Table
   pub faults : ℕ
+  pub asked : Option (List Question)
 
 -- a call is its result, or a question to the host and how the call goes on with each answer
 pub data Asking (A : Type 0) : Type 0 where
@@ -36,6 +47,12 @@ abbrev pub by_table : {A : Type 0} → Table → Asking A → Result A PyError
 by_table t (gives r) = r
 by_table t (asks h m k next) = by_table t (next (t.answer h m k))
 by_table t (tests h next) = by_table t (next (t.has_items h))
+
+-- what a call asks under a table, the first question first
+abbrev pub questions : {A : Type 0} → Table → Asking A → List Question
+questions t (gives r) = []
+questions t (asks h m k next) = question h m k ∷ questions t (next (t.answer h m k))
+questions t (tests h next) = questions t (next (t.has_items h))
 
 -- a call asks the host nothing
 abbrev pub silent : {A : Type 0} → Asking A → Bool
@@ -51,13 +68,31 @@ gives (Err e) and_then f = gives (Err e)
 asks h m k next and_then f = asks h m k (λ a. next a and_then f)
 tests h next and_then f = tests h (λ b. next b and_then f)
 
--- the result is one that the call comes to, by the table's answers where the host tells a table; or
--- a question failed, and the count of faults rose
+-- P, but where the host ran out of memory nothing
+abbrev pub UnlessHostRanOut : Result (Option Value) HostAnswer → Type 0 → Type 0
+UnlessHostRanOut (Ok a) P = P
+UnlessHostRanOut (Err Failed) P = P
+UnlessHostRanOut (Err RanOut) P = Unit {0}
+
+-- what each method of a host promises of the answer for a handle and a key; a host that keeps its
+-- questions keeps this one
+pub record Tells (h : ℕ) (m : HostMethod) (k : Plain) (old new : Seen)
+    (result : Result (Option Value) HostAnswer) : Type 0 where
+  pub kept : new.table ≡ old.table
+  pub later : old.faults ≤ new.faults
+  pub failed : result ≡ Err Failed → Rose old.faults new.faults
+  pub told : IfOk result (λ a. IfSome old.table (λ t. t.answer h m k ≡ option_map plain_of a))
+  pub noted : IfSome old.asked
+      (λ qs. UnlessHostRanOut result (new.asked ≡ Some (qs ++ (question h m k ∷ []))))
+
+-- the call's questions were asked, one after the other and no others, and the result is what it
+-- comes to by their answers; or the last one of them failed
 abbrev pub Comes : {A : Type 0} → Seen → Seen → Asking A → Result A PyError → Type 0
-Comes old new (gives r) result = result ≡ r
+Comes old new (gives r) result = (result ≡ r) × (new ≡ old)
 Comes old new (asks h m k next) result =
-    ((result ≡ Err HostFault) × Rose old.faults new.faults)
-    ⊎ ((a : Option Plain) × (IfSome old.table (λ t. t.answer h m k ≡ a)) × Comes old new (next a) result)
+    (Tells h m k old new (Err Failed) × (result ≡ Err HostFault))
+    ⊎ ((mid : Seen) × (a : Option Value) × Tells h m k old mid (Ok a)
+    × Comes mid new (next (option_map plain_of a)) result)
 Comes old new (tests h next) result =
     (b : Bool) × (IfSome old.table (λ t. t.has_items h ≡ b)) × Comes old new (next b) result
 
@@ -76,18 +111,11 @@ Meets want result = MeetsUnless no_memory want result
 
 -- what a call with a host promises: the table is as before, the count of faults did not fall, and
 -- the result is one that the definition comes to
-pub record Answers {A : Type 0} (call : Asking A) (old new : Seen) (result : Result A PyError) : Type 0 where
+pub record Answers {A : Type 0} (call : Asking A) (old new : Seen)
+    (result : Result A PyError) : Type 0 where
   pub kept : new.table ≡ old.table
   pub later : old.faults ≤ new.faults
   pub comes : UnlessOutOfMemory result (Comes old new call result)
-
--- what each method of a host promises of the answer for a handle and a key
-pub record Tells (h : ℕ) (m : HostMethod) (k : Plain) (old new : Seen)
-    (result : Result (Option Value) HostAnswer) : Type 0 where
-  pub kept : new.table ≡ old.table
-  pub later : old.faults ≤ new.faults
-  pub failed : result ≡ Err Failed → Rose old.faults new.faults
-  pub told : IfOk result (λ a. IfSome old.table (λ t. t.answer h m k ≡ option_map plain_of a))
 
 -- each error that a call may come to, whatever is answered to its questions, passes a test
 abbrev pub Fails : {A : Type 0} → (PyError → Bool) → Asking A → Type 0

@@ -12,7 +12,8 @@ use Rattle.py_text.specs.Subscript.{item_of}
 use Rattle.py_value.specs.declared.host.HostMethod.TheVariants.{GetAttr, GetItem}
 use Rattle.py_value.specs.declared.value.DictKey.{DictKey}
 use Rattle.py_value.specs.declared.value.DictKey.TheVariants.{Int, Str, Bytes}
-use Rattle.py_value.specs.Asking.{Asking, gives, asks, tests, ◌and_then◌}
+use Rattle.py_value.specs.declared.host.HostAnswer.TheVariants.{NoMemory as RanOut}
+use Rattle.py_value.specs.Asking.{Asking, gives, asks, tests, ◌and_then◌, Seen, Tells}
 use Rattle.py_value.specs.Classes.{class_of, integer_of}
 use Rattle.py_value.specs.Dict.{lookup}
 use Rattle.py_value.specs.Plain.{Plain, Plains, none, bool, int, str, bytes, tuple, list, dict, handle, value_at, size_of_values}
@@ -102,3 +103,8 @@ attr v name = gives (Err (NoAttribute (class_of v)))
 abbrev pub attr_error : PyError → Bool
 attr_error (NoAttribute _) = true
 attr_error _ = false
+
+-- the host ran out of memory when it was asked for the attribute
+abbrev pub HostRanOut : Plain → List ℕ → Seen → Seen → Type 0
+HostRanOut (handle h) name old new = Tells h GetAttr (str name) old new (Err RanOut)
+HostRanOut v name old new = ⊥

@@ -1,8 +1,8 @@
 //! The items and attributes of values: `obj[key]` and `obj.name` of the Python Language Reference,
 //! "Subscriptions" and "Attribute references".
 
-ghost use Rattle.std.specs.Prelude.{◌≡◌, ◌∷◌, [], Ok, Some, IfOk, IsOkUnless, pos, option_map};
-ghost use Rattle.py_value.specs.Asking.{Answers, Meets};
+ghost use Rattle.std.specs.Prelude.{◌≡◌, true, Ok, Err};
+ghost use Rattle.py_value.specs.Asking.{Answers, Meets, silent};
 ghost use Rattle.py_value.specs.Lookup as spec;
 ghost use Rattle.py_value.specs.Dict.{lookup};
 ghost use Rattle.py_value.specs.Plain.{handle as handle_of};
@@ -127,8 +127,10 @@ fn handle_item<H: Host>(alloc: Global, host: &mut H, handle: u64, key: &Value) -
 /// `NotSubscriptable` by the class of the value, then `Downcast` by that of the key, then
 /// `IndexOutOfRange`, `TupleIndex` or `Key` where nothing is there.
 pub fn get_item<H: Host>(alloc: Global, host: &mut H, obj: &Value, key: &Value) -> PyResult<Value>
-    ensures { Answers (spec.item (plain_of obj.now) (plain_of key.now))
+    ensures answers { Answers (spec.item (plain_of obj.now) (plain_of key.now))
         (H.seen host.old) (H.seen host.new) (plainly result) }
+    ensures quiet { silent (spec.item (plain_of obj.now) (plain_of key.now)) ≡ true
+        → host.new ≡ host.old }
 {
     match obj {
         Value::Str(text) => text_item(alloc, text, index_of(key)?),
@@ -142,8 +144,10 @@ pub fn get_item<H: Host>(alloc: Global, host: &mut H, obj: &Value, key: &Value) 
 }
 
 fn handle_attr<H: Host>(host: &mut H, handle: u64, name: &PyStr) -> PyResult<Value>
-    ensures { Answers (spec.attr (handle_of handle) name.now)
+    ensures answers { Answers (spec.attr (handle_of handle) name.now)
         (H.seen host.old) (H.seen host.new) (plainly result) }
+    ensures free { result ≡ Err PyError.NoMemory →
+        spec.HostRanOut (handle_of handle) name.now (H.seen host.old) (H.seen host.new) }
 {
     match host.get_attr(handle, name) {
         Ok(Some(value)) => Ok(value),
@@ -157,10 +161,13 @@ fn handle_attr<H: Host>(host: &mut H, handle: u64, name: &PyStr) -> PyResult<Val
 ///
 /// # Errors
 ///
-/// `NoAttribute` where there is none.
+/// `NoAttribute` where there is none. Memory runs out only where it does in the host.
 pub fn get_attr<H: Host>(_alloc: Global, host: &mut H, obj: &Value, name: &PyStr) -> PyResult<Value>
-    ensures { Answers (spec.attr (plain_of obj.now) name.now)
+    ensures answers { Answers (spec.attr (plain_of obj.now) name.now)
         (H.seen host.old) (H.seen host.new) (plainly result) }
+    ensures quiet { silent (spec.attr (plain_of obj.now) name.now) ≡ true → host.new ≡ host.old }
+    ensures free { result ≡ Err PyError.NoMemory →
+        spec.HostRanOut (plain_of obj.now) name.now (H.seen host.old) (H.seen host.new) }
 {
     match obj {
         Value::Handle(handle) => handle_attr(host, *handle, name),

@@ -135,3 +135,16 @@ fn of_a_host_that_fails(rt: HostRuntime) -> Result<(), PyError> {
     );
     Ok(())
 }
+
+#[test]
+fn of_a_host_whose_items_fail(rt: HostRuntime) -> Result<(), PyError> {
+    let alloc = rt.alloc();
+    let mut fails = Vec::new(alloc);
+    fails.push(1)?;
+    let mut items = five(alloc, HostMethod::GetItem, int(0), fails)?;
+    let failed = get_item(alloc, &mut items, &Value::Handle(7), &int(0));
+    assert!(rt; matches!(failed, Err(PyError::HostFault)));
+    let found = get_item(alloc, &mut items, &Value::Handle(7), &int(0))?;
+    assert!(rt; matches!(&found, Value::Int(five) if five.as_i128() == 5));
+    Ok(())
+}

@@ -9,52 +9,74 @@ use py_text::PyStr;
 pub struct NoHost;
 
 impl Host for NoHost {
-    ghost use Rattle.std.specs.Prelude.{Some};
+    ghost use Rattle.std.specs.Prelude.{◌≡◌, Ok, Some, None, false};
     ghost use Rattle.py_value.specs.NoHost.{no_table};
 
-    ghost seen = { λ _. record { table = Some no_table; faults = 0 } };
+    ghost seen = { λ _. record { table = Some no_table; faults = 0; asked = None } };
 
-    fn has_getitem(&self, _handle: u64) -> bool {
+    fn has_getitem(&self, _handle: u64) -> bool
+        ensures none { result ≡ false }
+    {
         false
     }
 
-    fn get_attr(&mut self, _handle: u64, _name: &PyStr) -> Result<Option<Value>, HostAnswer> {
+    fn get_attr(&mut self, _handle: u64, _name: &PyStr) -> Result<Option<Value>, HostAnswer>
+        ensures none { result ≡ Ok None }
+    {
         Ok(None)
     }
 
-    fn get_item(&mut self, _handle: u64, _key: &Value) -> Result<Option<Value>, HostAnswer> {
+    fn get_item(&mut self, _handle: u64, _key: &Value) -> Result<Option<Value>, HostAnswer>
+        ensures none { result ≡ Ok None }
+    {
         Ok(None)
     }
 
-    fn to_int(&mut self, _handle: u64) -> Result<Option<Value>, HostAnswer> {
+    fn to_int(&mut self, _handle: u64) -> Result<Option<Value>, HostAnswer>
+        ensures none { result ≡ Ok None }
+    {
         Ok(None)
     }
 
-    fn to_bytes(&mut self, _handle: u64) -> Result<Option<Value>, HostAnswer> {
+    fn to_bytes(&mut self, _handle: u64) -> Result<Option<Value>, HostAnswer>
+        ensures none { result ≡ Ok None }
+    {
         Ok(None)
     }
 
-    fn to_bool(&mut self, _handle: u64) -> Result<Option<Value>, HostAnswer> {
+    fn to_bool(&mut self, _handle: u64) -> Result<Option<Value>, HostAnswer>
+        ensures none { result ≡ Ok None }
+    {
         Ok(None)
     }
 
-    fn len(&mut self, _handle: u64) -> Result<Option<Value>, HostAnswer> {
+    fn len(&mut self, _handle: u64) -> Result<Option<Value>, HostAnswer>
+        ensures none { result ≡ Ok None }
+    {
         Ok(None)
     }
 
-    fn index(&mut self, _handle: u64) -> Result<Option<Value>, HostAnswer> {
+    fn index(&mut self, _handle: u64) -> Result<Option<Value>, HostAnswer>
+        ensures none { result ≡ Ok None }
+    {
         Ok(None)
     }
 
-    fn str_of(&mut self, _handle: u64) -> Result<Option<Value>, HostAnswer> {
+    fn str_of(&mut self, _handle: u64) -> Result<Option<Value>, HostAnswer>
+        ensures none { result ≡ Ok None }
+    {
         Ok(None)
     }
 
-    fn repr_of(&mut self, _handle: u64) -> Result<Option<Value>, HostAnswer> {
+    fn repr_of(&mut self, _handle: u64) -> Result<Option<Value>, HostAnswer>
+        ensures none { result ≡ Ok None }
+    {
         Ok(None)
     }
 
-    fn format_of(&mut self, _handle: u64, _spec: &PyStr) -> Result<Option<Value>, HostAnswer> {
+    fn format_of(&mut self, _handle: u64, _spec: &PyStr) -> Result<Option<Value>, HostAnswer>
+        ensures none { result ≡ Ok None }
+    {
         Ok(None)
     }
 }

@@ -1,0 +1,14 @@
+use Rattle.std.proofs.Common.{◌≡◌, Ok}
+use Rattle.std.proofs.lemmas.Result.{err_from_is_err_and}
+use Rattle.py_value.specs.Asking.{gives}
+use Rattle.py_value.specs.Printing.{escaped}
+use Rattle.py_value.proofs.AskingLemmas.{go_on, stop, asks_nothing}
+use Rattle.py_value.proofs.printing.ascii_of.Goals as goal
+
+pub returns-in_err-text : goal.returns-in_err-text
+returns-in_err-text g c =
+    let p = err_from_is_err_and c.from_residual.result c.from_residual.ensures.1 in
+    rw (p.1, p.2) (stop (λ t. gives (Ok (escaped t))) c.in_err-text.ensures)
+
+pub returns : goal.returns
+returns g c = go_on (λ t. gives (Ok (escaped t))) c.in_ok-text.ensures (asks_nothing c.escaped.ensures)

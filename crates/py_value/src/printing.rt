@@ -1,0 +1,95 @@
+//! How values are printed: `str`, `repr` and `ascii` of "Built-in Functions" of the Python Library
+//! Reference.
+
+ghost use Rattle.std.specs.Prelude.{◌≡◌, []};
+ghost use Rattle.py_value.specs.Asking.{Answers};
+ghost use Rattle.py_value.specs.Plain.{handle as handle_of};
+ghost use Rattle.py_value.specs.Printing as spec;
+ghost use Rattle.py_value.specs.ValueView.{plain_of};
+
+mod escapes;
+mod parts;
+mod values;
+
+use crate::host::{Host, HostAnswer};
+use crate::value::Value;
+use escapes::escaped;
+use py_base::{ClassName, PyError, PyResult};
+use py_text::PyStr;
+use std::alloc::Global;
+use values::put_handle;
+
+/// `repr(obj)`.
+///
+/// # Errors
+///
+/// `TooDeep` where values are inside one another more than 200 deep, before the host is asked.
+pub fn repr_of<H: Host>(alloc: Global, host: &mut H, obj: &Value) -> PyResult<PyStr>
+    ensures { Answers (spec.repr_of (plain_of obj.now)) (H.seen host.old) (H.seen host.new) result }
+{
+    if !obj.fits_depth(200) {
+        return Err(PyError::TooDeep);
+    }
+    let mut out = PyStr::new(alloc);
+    obj.put_repr(alloc, host, &mut out)?;
+    Ok(out)
+}
+
+// The text that a host answered, moved.
+fn answered_text(answer: Value) -> PyResult<PyStr>
+    ensures { result ≡ spec.text_after [] (plain_of answer) }
+{
+    match answer {
+        Value::Str(text) => Ok(text),
+        other => Err(PyError::Downcast(ClassName::Str, other.class())),
+    }
+}
+
+fn handle_repr<H: Host>(alloc: Global, host: &mut H, handle: u64) -> PyResult<PyStr>
+    ensures { Answers (spec.put_repr (handle_of handle) [])
+        (H.seen host.old) (H.seen host.new) result }
+{
+    let mut out = PyStr::new(alloc);
+    put_handle(alloc, host, &mut out, handle)?;
+    Ok(out)
+}
+
+// The text of a handle; one that has none is printed by its repr.
+fn handle_text<H: Host>(alloc: Global, host: &mut H, handle: u64) -> PyResult<PyStr>
+    ensures { Answers (spec.text_of (handle_of handle)) (H.seen host.old) (H.seen host.new) result }
+{
+    match host.str_of(handle) {
+        Ok(Some(answer)) => answered_text(answer),
+        Ok(None) => handle_repr(alloc, host, handle),
+        Err(HostAnswer::Failed) => Err(PyError::HostFault),
+        Err(HostAnswer::NoMemory) => Err(PyError::NoMemory),
+    }
+}
+
+/// `str(obj)`.
+///
+/// # Errors
+///
+/// `TooDeep` where values are inside one another more than 200 deep, before the host is asked.
+pub fn str_of<H: Host>(alloc: Global, host: &mut H, obj: &Value) -> PyResult<PyStr>
+    ensures { Answers (spec.str_of (plain_of obj.now)) (H.seen host.old) (H.seen host.new) result }
+{
+    match obj {
+        Value::Str(text) => Ok(text.try_clone(alloc)?),
+        Value::Handle(handle) => handle_text(alloc, host, *handle),
+        _ => repr_of(alloc, host, obj),
+    }
+}
+
+/// `ascii(obj)`.
+///
+/// # Errors
+///
+/// `TooDeep` where values are inside one another more than 200 deep, before the host is asked.
+pub fn ascii_of<H: Host>(alloc: Global, host: &mut H, obj: &Value) -> PyResult<PyStr>
+    ensures { Answers (spec.ascii_of (plain_of obj.now))
+        (H.seen host.old) (H.seen host.new) result }
+{
+    let text = repr_of(alloc, host, obj)?;
+    escaped(alloc, text)
+}

@@ -1,0 +1,123 @@
+//! The methods of Python's `str` that are handed values.
+
+ghost use Rattle.std.specs.Prelude.{◌≡◌, ℕ, List};
+ghost use Rattle.py_value.specs.Affix as spec;
+ghost use Rattle.py_value.specs.Asking.{Meets};
+ghost use Rattle.py_value.specs.Lookup.{index_of};
+ghost use Rattle.py_value.specs.Maketrans as tables;
+ghost use Rattle.py_value.specs.Translate.{Translates};
+ghost use Rattle.py_value.specs.ValueView.{plain_of};
+
+use crate::affix::{Place, Side, char_at};
+use crate::host::Host;
+use crate::value::{PyDict, Value};
+use crate::{maketrans, translate};
+use py_base::{OptionalArg, PyResult};
+use py_text::PyStr;
+use std::alloc::Global;
+
+/// The methods of Python's `str` that are handed values.
+pub trait StrValues {
+    /// The code points of the text.
+    ghost points: { Self → List ℕ };
+
+    /// `text[needle]`: the index counts code points, from the end where it is negative. (Python
+    /// Library Reference, Common Sequence Operations.)
+    ///
+    /// # Errors
+    ///
+    /// `Downcast` where the needle is neither an integer nor a bool, then `IndexOutOfRange`.
+    fn getitem(&self, alloc: Global, needle: &Value) -> PyResult<PyStr>
+        ensures { Meets (spec.char_at (points self.now) (index_of (plain_of needle.now))) result };
+
+    /// Whether the window from `start` to `end` begins with the text `affix`, or with a text of the
+    /// tuple `affix`. It takes no memory. (Python Library Reference, String Methods,
+    /// `str.startswith`.)
+    ///
+    /// # Errors
+    ///
+    /// `Downcast` where a value that is reached is no text.
+    fn starts_with_value(
+        &self,
+        affix: &Value,
+        start: Option<i128>,
+        end: Option<i128>,
+    ) -> PyResult<bool>
+        ensures { result
+            ≡ spec.starts_with_value (points self.now) (plain_of affix.now) start end };
+
+    /// The same at the end of the window. (Python Library Reference, String Methods,
+    /// `str.endswith`.)
+    fn ends_with_value(
+        &self,
+        affix: &Value,
+        start: Option<i128>,
+        end: Option<i128>,
+    ) -> PyResult<bool>
+        ensures { result
+            ≡ spec.ends_with_value (points self.now) (plain_of affix.now) start end };
+
+    /// The text with each character replaced by what the table has for its code point: a text, the
+    /// character of an integer, or nothing for None. A character whose look-up fails is kept.
+    /// (Python Library Reference, String Methods, `str.translate`.)
+    ///
+    /// # Errors
+    ///
+    /// `NotSubscriptable` before any character, and `Translate` where the table has another value.
+    fn translate<H: Host>(&self, alloc: Global, host: &mut H, table: &Value) -> PyResult<PyStr>
+        ensures { Translates (plain_of table.now) (points self.now)
+            (H.seen host.old) (H.seen host.new) result };
+
+    /// A table for `translate`, by code points: of a dictionary, or of texts whose characters
+    /// replace one another, with those that are dropped. (Python Library Reference, String Methods,
+    /// `str.maketrans`.)
+    fn maketrans(
+        alloc: Global,
+        dict_or_str: Value,
+        to_str: OptionalArg<PyStr>,
+        none_str: OptionalArg<PyStr>,
+    ) -> PyResult<PyDict>
+        ensures { Meets (tables.maketrans (plain_of dict_or_str)
+            (tables.given to_str) (tables.given none_str)) result };
+}
+
+impl StrValues for PyStr {
+    ghost points = { λ shown. shown };
+
+    fn getitem(&self, alloc: Global, needle: &Value) -> PyResult<PyStr> {
+        char_at(alloc, self, needle)
+    }
+
+    fn starts_with_value(
+        &self,
+        affix: &Value,
+        start: Option<i128>,
+        end: Option<i128>,
+    ) -> PyResult<bool> {
+        let side = Side::Start;
+        Place { side, start, end }.affix_fits(self, affix)
+    }
+
+    fn ends_with_value(
+        &self,
+        affix: &Value,
+        start: Option<i128>,
+        end: Option<i128>,
+    ) -> PyResult<bool> {
+        let side = Side::End;
+        Place { side, start, end }.affix_fits(self, affix)
+    }
+
+    fn translate<H: Host>(&self, alloc: Global, host: &mut H, table: &Value) -> PyResult<PyStr> {
+        translate::translate(self, alloc, host, table)
+    }
+
+    fn maketrans(
+        alloc: Global,
+        dict_or_str: Value,
+        to_str: OptionalArg<PyStr>,
+        none_str: OptionalArg<PyStr>,
+    ) -> PyResult<PyDict> {
+        maketrans::maketrans(alloc, dict_or_str, to_str, none_str)
+    }
+}
