@@ -1,6 +1,9 @@
+mod FillLemmas
 mod KeyLemmas
 mod LengthLemmas
 mod LiteralLemmas
+mod NumeralLemmas
 mod PartLemmas
 mod ReaderLemmas
 mod RunLemmas
+mod WritingLemmas

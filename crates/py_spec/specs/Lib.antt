@@ -1,2 +1,3 @@
 pub mod Percent
 pub mod PercentRows
+pub mod WritingRows

@@ -4,3 +4,4 @@ pub mod Literals
 pub mod Reading
 pub mod Specifiers
 pub mod Template
+pub mod Writing

@@ -5,3 +5,5 @@
 
 #[cfg(test)]
 mod percent;
+#[cfg(test)]
+mod writing;
