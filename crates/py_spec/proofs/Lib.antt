@@ -1,7 +1,9 @@
+mod BytePartLemmas
 mod FillLemmas
 mod KeyLemmas
 mod LengthLemmas
 mod LiteralLemmas
+mod NarrowLemmas
 mod NumeralLemmas
 mod PartLemmas
 mod ReaderLemmas

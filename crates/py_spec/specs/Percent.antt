@@ -1,4 +1,5 @@
 -- Templates of percent formatting.
+pub mod ByteParts
 pub mod Flags
 pub mod Literals
 pub mod Reading

@@ -1,12 +1,15 @@
 -- Values, and how a specifier writes them.
-use Rattle.std.specs.Prelude.{◌≡◌, codes, Some, None, pos, negsuc}
+use Rattle.std.specs.Prelude.{◌≡◌, codes, Ok, Some, None, [], ◌∷◌, pos, negsuc}
 use Rattle.std.specs.Fmt.{digits}
 use Rattle.std.proofs.Common.{refl}
+use Rattle.py_spec.specs.declared.percent.parts.CFormatKey.TheVariants.{Bytes}
+use Rattle.py_spec.specs.declared.percent.parts.CFormatPart.TheVariants.{LiteralBytes, Spec}
 use Rattle.py_spec.specs.declared.percent.parts.CFormatQuantity.TheVariants.{Amount}
 use Rattle.py_spec.specs.declared.percent.parts.CFormatPrecision.TheVariants.{Quantity}
 use Rattle.py_spec.specs.declared.percent.parts.CFormatType.TheVariants.{Number, Character, String}
 use Rattle.py_spec.specs.declared.percent.parts.CNumberType.TheVariants.{Decimal, Hex}
 use Rattle.py_spec.specs.declared.percent.parts.CFormatConversion.TheVariants.{Str}
+use Rattle.py_spec.specs.Percent.ByteParts.{byte_parts}
 use Rattle.py_spec.specs.Percent.Flags.{flag}
 use Rattle.py_spec.specs.Percent.Reading.{typed_spec}
 use Rattle.py_spec.specs.Percent.Writing.{number_text, string_units}
@@ -50,3 +53,10 @@ character_not_cut : string_units
     (typed_spec None (flag 0) None (Some (Quantity (Amount 0))) (Character, 99)) (codes "x")
     ≡ codes "x"
 character_not_cut = refl
+
+-- a template of bytes has its literals and keys as bytes
+byte_template : byte_parts (codes "a%%%(k)d")
+    ≡ Ok ((0, LiteralBytes (codes "a%"))
+    ∷ (3, Spec (typed_spec (Some (Bytes (codes "k"))) (flag 0) None None (Number Decimal, 100)))
+    ∷ [])
+byte_template = refl

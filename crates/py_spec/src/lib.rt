@@ -3,6 +3,7 @@
 
 mod percent;
 
+pub use percent::byte_parts::CFormatBytes;
 pub use percent::parts::{
     CConversionFlags, CFormatConversion, CFormatKey, CFormatPart, CFormatPrecision,
     CFormatQuantity, CFormatSpec, CFormatType, CNumberType,

@@ -1,6 +1,8 @@
 //! Templates of percent formatting.
 
+pub mod byte_parts;
 mod fills;
+mod latin;
 mod numerals;
 pub mod parts;
 mod reader;

@@ -2,8 +2,8 @@
 
 use py_base::PyResult;
 use py_int::PyInt;
-use py_spec::{CFormatPart, CFormatString};
-use py_text::PyStr;
+use py_spec::{CFormatBytes, CFormatPart, CFormatString};
+use py_text::{PyBytes, PyStr};
 use std::alloc::Global;
 
 const NUMBERS: [(&str, i128, &str); 24] = [
@@ -65,6 +65,14 @@ const CHARS: [(&str, char, &str); 4] = [
     ("%c", '🎅', "🎅"),
 ];
 
+const BYTES: [(&[u8], &[u8], &[u8]); 5] = [
+    (b"%-4s", b"ab", b"ab  "),
+    (b"%.1b", b"\xff\xfe", b"\xff"),
+    (b"%3b", b"\xff", b"  \xff"),
+    (b"%.0c", b"x", b"x"),
+    (b"%.s", b"ab", b""),
+];
+
 fn parse(alloc: Global, template: &str) -> PyResult<CFormatString> {
     let text = PyStr::copy_of(alloc, template)?;
     CFormatString::parse(alloc, &text)
@@ -89,6 +97,13 @@ fn character(alloc: Global, template: &str, value: char) -> PyResult<PyStr> {
     match parse(alloc, template)?.part(0) {
         Some((_, CFormatPart::Spec(read))) => read.format_char(alloc, value),
         _ => Ok(PyStr::new(alloc)),
+    }
+}
+
+fn bytes(alloc: Global, template: &[u8], value: &[u8]) -> PyResult<PyBytes> {
+    match CFormatBytes::parse_from_bytes(alloc, template)?.part(0) {
+        Some((_, CFormatPart::Spec(read))) => read.format_bytes(alloc, value),
+        _ => PyBytes::copy_of(alloc, b"no specifier"),
     }
 }
 
@@ -118,5 +133,17 @@ fn strings(rt: HostRuntime) -> PyResult<()> {
         }
     }
     assert_eq!(rt; right, STRINGS.len() + CHARS.len());
+    Ok(())
+}
+
+#[test]
+fn bytes_between_spaces(rt: HostRuntime) -> PyResult<()> {
+    let mut right = 0;
+    for (template, value, wanted) in BYTES {
+        if bytes(rt.alloc(), template, value)?.as_bytes() == wanted {
+            right += 1;
+        }
+    }
+    assert_eq!(rt; right, BYTES.len());
     Ok(())
 }
