@@ -1,6 +1,8 @@
+mod AscendLemmas
 mod BytePartLemmas
 mod FillLemmas
 mod KeyLemmas
+mod LawLemmas
 mod LengthLemmas
 mod LiteralLemmas
 mod NarrowLemmas

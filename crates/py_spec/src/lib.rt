@@ -1,6 +1,7 @@
 //! The grammars of templates: what a template is made of, and how one value is written.
 #![tactic(auto)]
 
+pub mod laws;
 mod percent;
 
 pub use percent::byte_parts::CFormatBytes;
