@@ -1,13 +1,13 @@
 -- What is left after each part of a template is no longer than before it.
-use Rattle.std.proofs.Common.{◌≡◌, ◌∙◌, ◌==◌, ◌||◌, ℕ, ◌≤◌, ◌<◌, ◌*◌, ◌+◌, ◌-◌, Bool, true, false, if◌then◌else◌, List, [], ◌∷◌, length, drop, arith, refl, sym, nat_lt, Option, Some, None}
+use Rattle.std.proofs.Common.{◌≡◌, ◌==◌, ◌||◌, ℕ, ◌≤◌, ◌<◌, ◌*◌, ◌+◌, ◌-◌, Bool, true, false, if◌then◌else◌, List, [], ◌∷◌, length, drop, arith, sym, nat_lt, Option, Some, None}
 use Rattle.std.specs.Prelude.{Ok}
-use Rattle.py_base.specs.Reading.{◌and_then◌, is_next, find}
-use Rattle.py_base.proofs.HoldsLemmas.{Holds, ok, bad, then_holds, if_holds, guard, weaker}
+use Rattle.py_base.specs.Reading.{is_next, find}
+use Rattle.py_base.proofs.HoldsLemmas.{Holds, ok, bad, then_holds, if_holds, guard}
 use Rattle.py_spec.specs.declared.percent.parts.CFormatType.{CFormatType}
 use Rattle.py_spec.specs.declared.percent.parts.CConversionFlags.{CConversionFlags}
 use Rattle.py_spec.specs.Percent.Flags.{flag, flags_by_sign, flags_on, read_flags, with_flags}
 use Rattle.py_spec.specs.Percent.Literals.{literal, put_first}
-use Rattle.py_spec.specs.Percent.Reading.{Read, open_after, key_on, key_in, key_text, read_key, is_digit, read_digits, amount_in, most, read_amount, read_quantity, read_precision, skip_length, types, typed, read_type, read_specifier, place_of}
+use Rattle.py_spec.specs.Percent.Reading.{Read, open_after, key_on, key_in, read_key, is_digit, read_digits, most, read_amount, read_quantity, read_precision, skip_length, types, typed, read_type, read_specifier, place_of}
 use Rattle.py_spec.specs.Percent.Template.{Turn, specifier_after, read_turn}
 
 -- what is left is no longer than this
@@ -68,7 +68,7 @@ a_type n (c ∷ cs) = by_type (find types c) where
   by_type None = bad
   by_type (Some t) = ok (omega arith)
 
-a_specifier : (n : ℕ) (cs : List ℕ) → Within cs (read_specifier n cs)
+pub a_specifier : (n : ℕ) (cs : List ℕ) → Within cs (read_specifier n cs)
 a_specifier n cs =
     then_holds (a_key n cs) λ key xs p.
     then_holds (a_quantity n (read_flags (flag 0) xs).1) λ width ys q.

@@ -1,6 +1,13 @@
+mod AscendLemmas
+mod BytePartLemmas
+mod FillLemmas
 mod KeyLemmas
+mod LawLemmas
 mod LengthLemmas
 mod LiteralLemmas
+mod NarrowLemmas
+mod NumeralLemmas
 mod PartLemmas
 mod ReaderLemmas
 mod RunLemmas
+mod WritingLemmas

@@ -1,7 +1,6 @@
 -- One turn of the loop that reads a literal.
-use Rattle.std.proofs.Common.{◌≡◌, ◌∙◌, ◌==◌, ◌&&◌, ℕ, Bool, true, false, not, cond, if◌then◌else◌, List, [], ◌∷◌, ◌++◌, drop, length, ◌≤◌, ◌<◌, sym, ap, refl, arith, append_assoc, append-nil, take_while}
+use Rattle.std.proofs.Common.{◌≡◌, ◌∙◌, ◌==◌, ◌&&◌, ℕ, Bool, true, false, not, cond, if◌then◌else◌, List, [], ◌∷◌, ◌++◌, drop, length, ◌≤◌, ◌<◌, sym, ap, refl, arith, append_assoc, append-nil}
 use Rattle.std.proofs.lemmas.List.Sums.{take_while-cons}
-use Rattle.py_base.specs.Chars.Whitespace.{skip_while}
 use Rattle.py_base.specs.Reading.{is_next}
 use Rattle.py_spec.specs.Percent.Literals.{is_plain, plain, after_plain, put_first, literal}
 

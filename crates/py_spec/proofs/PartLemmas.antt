@@ -1,13 +1,16 @@
 -- One turn of the loop that reads the parts of a template.
-use Rattle.std.proofs.Common.{◌≡◌, ◌∙◌, ℕ, suc, zero, ◌<◌, ◌≤◌, List, [], ◌∷◌, ◌++◌, length, sym, ap, refl, arith, append_assoc, append-nil}
-use Rattle.std.specs.Prelude.{Result, Ok, Err, Some, drop}
+use Rattle.std.proofs.Common.{◌≡◌, ◌∙◌, ◌==◌, Bool, false, if◌then◌else◌, ℕ, suc, ◌<◌, ◌≤◌, List, [], ◌∷◌, ◌++◌, length, sym, ap, subst, refl, arith, append_assoc, append-nil}
+use Rattle.std.proofs.lemmas.Bool.Decides.{nat_tests}
+use Rattle.std.specs.Prelude.{Ok, Err, Some, drop}
+use Rattle.py_spec.specs.declared.percent.parts.CFormatPart.TheVariants.{Literal}
 use Rattle.py_spec.specs.declared.percent.parts.CFormatSpec.{CFormatSpec}
 use Rattle.py_spec.specs.Percent.Literals.{literal}
 use Rattle.py_base.specs.Reading.{◌and_then◌}
 use Rattle.py_base.specs.declared.error.PyError.{PyError}
+use Rattle.py_base.proofs.HoldsLemmas.{Holds}
 use Rattle.py_base.proofs.LoopLemmas.{Left, nothing_more, turned, stopped}
 use Rattle.py_spec.specs.Percent.Reading.{Read, place_of, read_specifier}
-use Rattle.py_spec.specs.Percent.Template.{Turn, Parts, specifier_after, read_turn, turn_parts, read_parts, value_of, percent_parts}
+use Rattle.py_spec.specs.Percent.Template.{Turn, Parts, specifier_after, read_turn, literal_part, turn_parts, read_parts, value_of, percent_parts}
 use Rattle.py_spec.proofs.LengthLemmas.{turn_shorter}
 
 -- the parts of a template are those that are made, and those of what is left
@@ -61,3 +64,15 @@ turn_read n place cs text rest next end s l h p d e =
 pub turn_fault : (n place : ℕ) (cs text rest next : List ℕ) (e : PyError) → literal cs ≡ (text, rest) → 0 < length rest → place ≡ place_of n rest → next ≡ drop 1 rest → read_specifier n next ≡ Err e → read_turn n cs ≡ Err e
 turn_fault n place cs text rest next e l h p d r =
     turn_is n place cs text rest next l h p d ∙ ap (with_specifier place text) r
+
+-- what is true of the parts that are read is true of the parts of a template
+pub of_parts : (P : Parts → Type 0) (r : Read Parts) (ps : Parts) → Holds (λ qs x. P qs) r → value_of r ≡ Ok ps → P ps
+of_parts P (Ok q) ps h e = let same : q.0 ≡ ps = cc e in subst P same (h.by q.0 q.1 refl)
+of_parts P (Err w) ps h e = let f : ⊥ = cc e in absurd f
+
+some_text : (n : ℕ) → 0 < n → (n == 0) ≡ false
+some_text n h = grind (arith, nat_tests)
+
+-- a literal that is not empty is a part
+pub literal_full : (place c : ℕ) (cs : List ℕ) → literal_part place (c ∷ cs) ≡ (place, Literal (c ∷ cs)) ∷ []
+literal_full place c cs = ap (λ (b : Bool). if b then [] else (place, Literal (c ∷ cs)) ∷ []) (some_text (length (c ∷ cs)) (omega arith))

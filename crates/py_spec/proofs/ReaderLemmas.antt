@@ -1,10 +1,9 @@
 -- A text without its next character, and the characters before the next `%`.
-use Rattle.std.proofs.Common.{◌≡◌, ◌==◌, ◌∙◌, ℕ, ◌+◌, ◌-◌, ◌<◌, cond, if◌then◌else◌, length-append, Bool, true, false, not, List, [], ◌∷◌, length, take, drop, sym, ap, refl, arith, chars, IsUtf8, IsCharBoundary, take_while, Option, Some, None, MatchOption, encode_utf8, ◌++◌}
+use Rattle.std.proofs.Common.{◌≡◌, ◌==◌, ◌∙◌, ℕ, ◌+◌, ◌-◌, ◌<◌, cond, if◌then◌else◌, length-append, Bool, true, false, not, List, [], ◌∷◌, length, take, drop, sym, ap, refl, arith, chars, IsUtf8, IsCharBoundary, Some, None, encode_utf8, ◌++◌}
 use Rattle.std.specs.Str.Pattern.{FindsChar, FindsBy}
 use Rattle.std.proofs.lemmas.List.{nil_from_length}
 use Rattle.std.proofs.lemmas.List.Sums.{take_while-cons}
 use Rattle.std.proofs.lemmas.Str.{chars_past_char, chars-nil}
-use Rattle.py_base.specs.Chars.Whitespace.{skip_while}
 use Rattle.py_text.proofs.UntilLemmas.{found_front, none_front}
 use Rattle.py_spec.specs.Percent.Literals.{is_plain, plain, after_plain}
 

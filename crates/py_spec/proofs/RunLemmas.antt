@@ -1,5 +1,5 @@
 -- One turn of the loops that read flags and digits.
-use Rattle.std.proofs.Common.{◌≡◌, ◌∙◌, ℕ, ◌+◌, ◌*◌, ◌-◌, ◌<◌, ◌≤◌, Bool, true, false, if◌then◌else◌, List, [], ◌∷◌, sym, ap, refl, arith, Option, Some, None}
+use Rattle.std.proofs.Common.{◌≡◌, ◌∙◌, ℕ, ◌+◌, ◌*◌, ◌-◌, ◌<◌, ◌≤◌, Bool, true, false, if◌then◌else◌, List, [], ◌∷◌, sym, ap, arith, Some, None}
 use Rattle.py_base.specs.Reading.{find}
 use Rattle.py_spec.specs.declared.percent.parts.CConversionFlags.{CConversionFlags}
 use Rattle.py_spec.specs.Percent.Flags.{flags_by_sign, flags_on, read_flags, with_flags}

@@ -1,2 +1,4 @@
+pub mod Laws
 pub mod Percent
 pub mod PercentRows
+pub mod WritingRows

@@ -7,7 +7,7 @@ use Rattle.py_base.specs.declared.error.percent.PercentFault.TheVariants.{Incomp
 use Rattle.py_spec.specs.declared.percent.parts.CFormatKey.TheVariants.{Text}
 use Rattle.py_spec.specs.declared.percent.parts.CFormatPart.TheVariants.{Literal, Spec}
 use Rattle.py_spec.specs.declared.percent.parts.CFormatQuantity.TheVariants.{Amount, FromValuesTuple}
-use Rattle.py_spec.specs.declared.percent.parts.CFormatPrecision.TheVariants.{Quantity, Dot}
+use Rattle.py_spec.specs.declared.percent.parts.CFormatPrecision.TheVariants.{Dot}
 use Rattle.py_spec.specs.declared.percent.parts.CFormatType.TheVariants.{Number, String}
 use Rattle.py_spec.specs.declared.percent.parts.CNumberType.TheVariants.{Decimal, Hex}
 use Rattle.py_spec.specs.declared.percent.parts.CFormatConversion.TheVariants.{Str}

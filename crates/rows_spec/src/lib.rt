@@ -4,4 +4,8 @@
 #![tactic(auto)]
 
 #[cfg(test)]
+mod byte_templates;
+#[cfg(test)]
 mod percent;
+#[cfg(test)]
+mod writing;

@@ -1,5 +1,5 @@
 -- How many specifiers a template has, and whether they have keys.
-use Rattle.std.specs.Prelude.{ℕ, ◌+◌, ◌&&◌, nat_lt, Bool, true, false, not, if◌then◌else◌, Option, Some, None, is_some, count_by}
+use Rattle.std.specs.Prelude.{ℕ, ◌+◌, ◌&&◌, nat_lt, Bool, false, not, if◌then◌else◌, Option, Some, None, is_some, count_by}
 use Rattle.py_spec.specs.declared.percent.parts.CFormatPart.{CFormatPart}
 use Rattle.py_spec.specs.declared.percent.parts.CFormatPart.TheVariants.{Literal, LiteralBytes, Spec}
 use Rattle.py_spec.specs.Percent.Template.{Parts}

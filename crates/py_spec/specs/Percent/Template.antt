@@ -1,5 +1,5 @@
 -- The parts of a percent template with their places, or its first fault.
-use Rattle.std.specs.Prelude.{ℕ, zero, suc, ◌==◌, if◌then◌else◌, List, [], ◌∷◌, ◌++◌, length, drop, Option, Some, None, Result, Ok, Err}
+use Rattle.std.specs.Prelude.{ℕ, zero, suc, ◌==◌, if◌then◌else◌, List, [], ◌∷◌, ◌++◌, length, Option, Some, None, Result, Ok, Err}
 use Rattle.py_base.specs.Reading.{◌and_then◌}
 use Rattle.py_base.specs.declared.error.PyError.{PyError}
 use Rattle.py_spec.specs.declared.percent.parts.CFormatPart.{CFormatPart}

@@ -124,6 +124,13 @@ impl CFormatString {
         Ok(made)
     }
 
+    /// The parts, borrowed.
+    pub(crate) fn parts(&self) -> &[(usize, CFormatPart)]
+        ensures { result.now ≡ self.now }
+    {
+        &self.parts
+    }
+
     /// How many parts there are.
     pub fn len(&self) -> usize
         ensures { result ≡ length self.now }

@@ -1,4 +1,4 @@
-use Rattle.std.proofs.Common.{rules, ◌≡◌, ◌<◌, ◌^◌, arith, ap, length}
+use Rattle.std.proofs.Common.{rules, ◌<◌, ◌^◌, arith, ap, length}
 use Rattle.py_spec.proofs.percent.reader.Reader.key_text.Goals as goal
 
 pub open_after-requires : goal.open_after-requires

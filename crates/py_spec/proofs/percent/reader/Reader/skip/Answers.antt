@@ -1,4 +1,4 @@
-use Rattle.std.proofs.Common.{rules, ◌≡◌, ◌∙◌, ◌++◌, ◌-◌, sym, ap, chars, IsUtf8, encode_utf8}
+use Rattle.std.proofs.Common.{rules, ◌≡◌, ◌∙◌, ◌++◌, ◌-◌, sym, ap, IsUtf8, encode_utf8}
 use Rattle.py_spec.proofs.ReaderLemmas.{one_less, first_skipped}
 use Rattle.py_spec.proofs.percent.reader.Reader.skip.Goals as goal
 

@@ -1,4 +1,4 @@
-use Rattle.std.proofs.Common.{◌≡◌, length}
+use Rattle.std.proofs.Common.{length}
 use Rattle.py_spec.proofs.PartLemmas.{PartsLeft}
 use Rattle.py_spec.proofs.percent.template.CFormatString.parse.Given as goal
 

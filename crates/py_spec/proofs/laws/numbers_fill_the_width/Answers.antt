@@ -1,0 +1,5 @@
+use Rattle.py_spec.proofs.LawLemmas.{numbers_long}
+use Rattle.py_spec.proofs.laws.numbers_fill_the_width.Goals as goal
+
+pub returns : goal.returns
+returns c = numbers_long
