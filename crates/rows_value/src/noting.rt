@@ -120,7 +120,7 @@ impl Host for Noting {
     }
 }
 
-fn noting(alloc: Global) -> Noting {
+fn noting_host(alloc: Global) -> Noting {
     let notes = Vec::new(alloc);
     Noting { alloc, notes }
 }
@@ -144,7 +144,7 @@ fn two_handles(alloc: Global) -> PyResult<Value> {
 #[test]
 fn a_printed_list(rt: HostRuntime) -> Result<(), PyError> {
     let alloc = rt.alloc();
-    let mut host = noting(alloc);
+    let mut host = noting_host(alloc);
     let printed = str_of(alloc, &mut host, &two_handles(alloc)?)?;
     assert_eq!(rt; printed.as_str(), "[<object 1>, <object 2>]");
     let asked = [0, 1].map(|i| question_at(&host, i));
@@ -156,7 +156,7 @@ fn a_printed_list(rt: HostRuntime) -> Result<(), PyError> {
 #[test]
 fn a_printed_handle(rt: HostRuntime) -> Result<(), PyError> {
     let alloc = rt.alloc();
-    let mut host = noting(alloc);
+    let mut host = noting_host(alloc);
     str_of(alloc, &mut host, &Value::Handle(1))?;
     let asked = [0, 1].map(|i| question_at(&host, i).1);
     let is = [HostMethod::StrOf, HostMethod::ReprOf];
@@ -167,7 +167,7 @@ fn a_printed_handle(rt: HostRuntime) -> Result<(), PyError> {
 #[test]
 fn an_item_and_an_attribute(rt: HostRuntime) -> Result<(), PyError> {
     let alloc = rt.alloc();
-    let mut host = noting(alloc);
+    let mut host = noting_host(alloc);
     let name = PyStr::copy_of(alloc, "a")?;
     let item = get_item(alloc, &mut host, &Value::Handle(1), &int(5));
     let attribute = get_attr(alloc, &mut host, &Value::Handle(1), &name);
@@ -186,7 +186,7 @@ fn an_item_and_an_attribute(rt: HostRuntime) -> Result<(), PyError> {
 #[test]
 fn values_without_handles(rt: HostRuntime) -> Result<(), PyError> {
     let alloc = rt.alloc();
-    let mut host = noting(alloc);
+    let mut host = noting_host(alloc);
     str_of(alloc, &mut host, &text(alloc, "a")?)?;
     get_item(alloc, &mut host, &text(alloc, "a")?, &int(0))?;
     assert_eq!(rt; host.notes.len(), 0);
