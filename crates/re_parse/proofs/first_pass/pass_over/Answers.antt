@@ -1,0 +1,25 @@
+use Rattle.std.proofs.Common.{◌≡◌, ◌≤◌, ◌∙◌, ap, sym, length, arith, ℕ}
+use Rattle.std.specs.Option.{option_map}
+use Rattle.std.proofs.lemmas.Bool.{eqb-false}
+use Rattle.re_parse.specs.PassView.{pass_in}
+use Rattle.re_parse.specs.TokenView.{token_of, lexed_of}
+use Rattle.re_parse.proofs.TokenWalkLemmas.{goes_on, stops_at}
+use Rattle.re_parse.proofs.WalkLemmas.{pass_walk, pass_begins}
+use Rattle.re_parse.proofs.first_pass.pass_over.Goals as goal
+
+pub tokens-init : goal.tokens-init
+tokens-init c = pass_begins c.args.flags c.args.text.now (pass_in c.new-pass.result) c.new-pass.ensures
+
+pub tokens-preserved : goal.tokens-preserved
+tokens-preserved c =
+    let none = eqb-false (length c.tokens.rest.now) 0 (sym c.tokens-test.ensures) in
+    (goes_on pass_walk c.args.flags c.args.text.now c.tokens.rest.now (pass_in c.tokens.pass) (pass_in c.in-Some.next) _ (token_of c.in-Token.token) c.in-Token.after.now (omega (arith, none)) c.tokens.invariant
+    (sym (ap lexed_of c.in-Token.is) ∙ c.in_ok-token.ensures)
+    (sym c.in_ok-next.ensures ∙ ap (option_map pass_in) c.in-Some.is)).0
+
+pub tokens-smaller : goal.tokens-smaller
+tokens-smaller c =
+    let none = eqb-false (length c.tokens.rest.now) 0 (sym c.tokens-test.ensures) in
+    (goes_on pass_walk c.args.flags c.args.text.now c.tokens.rest.now (pass_in c.tokens.pass) (pass_in c.in-Some.next) _ (token_of c.in-Token.token) c.in-Token.after.now (omega (arith, none)) c.tokens.invariant
+    (sym (ap lexed_of c.in-Token.is) ∙ c.in_ok-token.ensures)
+    (sym c.in_ok-next.ensures ∙ ap (option_map pass_in) c.in-Some.is)).1
