@@ -1,12 +1,12 @@
 -- Branches and pieces in memory.
-use Rattle.std.proofs.Common.{◌≡◌, refl, sym, ◌∙◌, ap, ℕ, ◌+◌, Bool, true, false, List, [], ◌∷◌, ◌++◌}
-use Rattle.std.specs.Prelude.{Option, Some, None}
+use Rattle.std.proofs.Common.{◌≡◌, refl, sym, ◌∙◌, ap, ℕ, ◌+◌, true, false, List, [], ◌∷◌, ◌++◌}
+use Rattle.std.specs.Prelude.{Some, None}
 use Rattle.re_tree.specs.declared.tree.TextTree.{TextTree}
 use Rattle.re_tree.specs.PlainText.{GroupName, PlainText, PlainTexts, sequence, alternation, done, ◌also◌}
 use Rattle.re_tree.specs.TextView.{text_of, texts_of}
 use Rattle.re_tree.specs.Tokens.{Opening, conditional_opening}
 use Rattle.re_tree.specs.Grammar.{is_countable}
-use Rattle.re_tree.specs.Machine.{Frame, State, state, groups_begun, part_of, closed_state, close_frame, snoc, count_last, regex_of, finish}
+use Rattle.re_tree.specs.Machine.{Frame, state, groups_begun, part_of, closed_state, close_frame, snoc, count_last, regex_of, finish}
 use Rattle.re_parse.specs.declared.parser.Frame.{Frame as FrameInMemory}
 use Rattle.re_parse.specs.TokenView.{opening_of}
 use Rattle.re_parse.specs.ParserView.{ended_of, last_of, frame_of, frames_onto}
@@ -31,11 +31,7 @@ pub regex_more : (bs : List TextTree) (ps : PlainTexts) → (bs ≡ [] → ⊥) 
 regex_more [] ps h = absurd (h refl)
 regex_more (b ∷ bs) ps h = refl
 
--- a conditional with two branches, and with more
-pub two_branches : (id : GroupName) (begin : ℕ) (old front : List TextTree) (r : TextTree) (ps : PlainTexts) → old ≡ front ++ r ∷ [] → front ≡ []
-    → part_of (conditional_opening id) begin 0 (text_of r also done) ps ≡ part_of (conditional_opening id) begin 0 (texts_of old) ps
-two_branches id begin old front r ps e f = ap (λ l. part_of (conditional_opening id) begin 0 (texts_of l) ps) (ap (λ l. l ++ r ∷ []) (sym f) ∙ sym e)
-
+-- a conditional with more than two branches
 pub more_branches : (id : GroupName) (begin : ℕ) (old front : List TextTree) (r : TextTree) (ps : PlainTexts) → old ≡ front ++ r ∷ [] → (front ≡ [] → ⊥)
     → None ≡ part_of (conditional_opening id) begin 0 (texts_of old) ps
 more_branches id begin old [] r ps e h = absurd (h refl)
@@ -85,6 +81,3 @@ none_made g (h ∷ fs) f outer bs ps = none_made g fs (frame_of h) (f ∷ outer)
 pub still_open : (g : ℕ) (fs : List FrameInMemory) (bs ps : PlainTexts) → (fs ≡ [] → ⊥) → None ≡ finish (Some (state g (frames_onto fs []) bs ps))
 still_open g [] bs ps h = absurd (h refl)
 still_open g (f ∷ fs) bs ps h = sym (none_made g fs (frame_of f) [] bs ps)
-
-pub none_is_open : (g : ℕ) (fs : List FrameInMemory) (bs ps : PlainTexts) → fs ≡ [] → Some (regex_of bs ps) ≡ finish (Some (state g (frames_onto fs []) bs ps))
-none_is_open g fs bs ps e = ap (λ l. finish (Some (state g (frames_onto l []) bs ps))) (sym e)

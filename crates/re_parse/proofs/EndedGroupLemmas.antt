@@ -1,6 +1,8 @@
 -- Which groups have ended, by number, with one more.
-use Rattle.std.proofs.Common.{◌≡◌, refl, sym, ◌∙◌, ap, ℕ, zero, suc, ◌+◌, ◌≤◌, ◌<◌, ◌==◌, ◌||◌, Bool, true, false, List, [], ◌∷◌, ◌++◌, length, get_or, set, arith}
-use Rattle.std.proofs.lemmas.List.{get_or_past}
+use Rattle.std.proofs.Common.{◌≡◌, refl, sym, ◌∙◌, ap, ℕ, zero, suc, ◌<◌, ◌==◌, ◌||◌, Bool, true, false, List, [], ◌∷◌, ◌++◌, length, get_or, set}
+use Rattle.std.proofs.lemmas.Bool.{eqb-true, eqb-false}
+use Rattle.std.proofs.lemmas.Grind.{get_or-set_at}
+use Rattle.std.proofs.lemmas.List.{get_or-set_other}
 use Rattle.re_tree.specs.Faults.{has_number}
 use Rattle.re_parse.specs.EndedGroups.{AreNumbers, SayTheSame, SayAlso}
 
@@ -26,12 +28,12 @@ pub same_pushed : (bs longer : List Bool) → SayTheSame bs longer → SayTheSam
 same_pushed bs longer h = λ n. pushed_false longer n ∙ h n
 
 -- one that is made true
+set_by : (bs : List Bool) (number n : ℕ) (b : Bool) → (number == n) ≡ b → number < length bs → get_or (set bs number true) n false ≡ (get_or bs n false || b)
+set_by bs number n true e h = get_or-set_at bs number n true false (sym (eqb-true number n e)) h ∙ or_true (get_or bs n false)
+set_by bs number n false e h = get_or-set_other bs number n true false (λ k. eqb-false number n e (sym k)) ∙ or_false (get_or bs n false)
+
 set_true : (bs : List Bool) (number n : ℕ) → number < length bs → get_or (set bs number true) n false ≡ (get_or bs n false || number == n)
-set_true [] number n h = absurd (omega (arith, h))
-set_true (b ∷ bs) zero zero h = or_true b
-set_true (b ∷ bs) zero (suc n) h = or_false (get_or bs n false)
-set_true (b ∷ bs) (suc number) zero h = or_false b
-set_true (b ∷ bs) (suc number) (suc n) h = set_true bs number n (omega (arith, h))
+set_true bs number n h = set_by bs number n (number == n) refl h
 
 pub also_set : (bs longer : List Bool) (number : ℕ) → SayTheSame bs longer → number < length longer → SayAlso number bs (set longer number true)
 also_set bs longer number h k = λ n. set_true longer number n k ∙ ap (λ b. b || number == n) (h n)
@@ -47,7 +49,3 @@ any_pushed (k ∷ order) number n = or_more (k == n) (has_number n order) (numbe
 
 pub numbers_pushed : (ended longer : List Bool) (order : List ℕ) (number : ℕ) → AreNumbers ended order → SayAlso number ended longer → AreNumbers longer (order ++ number ∷ [])
 numbers_pushed ended longer order number h k = λ n. k n ∙ ap (λ b. b || number == n) (h n) ∙ sym (any_pushed order number n)
-
--- a number past the end
-pub none_past : (ended : List Bool) (order : List ℕ) (n : ℕ) → AreNumbers ended order → length ended ≤ n → false ≡ has_number n order
-none_past ended order n h le = sym (get_or_past ended n false le) ∙ h n

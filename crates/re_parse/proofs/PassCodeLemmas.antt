@@ -1,7 +1,7 @@
 -- The first pass in memory, a token at a time.
-use Rattle.std.proofs.Common.{◌≡◌, refl, sym, ◌∙◌, ap, ℕ, zero, suc, ◌+◌, ◌≤◌, ◌<◌, ◌==◌, Bool, true, false, List, [], ◌∷◌, ◌++◌, append-nil, length, drop, arith}
+use Rattle.std.proofs.Common.{◌≡◌, refl, sym, ◌∙◌, ap, ℕ, suc, ◌+◌, ◌≤◌, ◌<◌, ◌==◌, Bool, true, List, [], ◌∷◌, ◌++◌, append-nil, length, drop, drop-cons, get_or, add-one, arith}
 use Rattle.std.proofs.lemmas.Bool.Decides.{nat_tests}
-use Rattle.std.specs.Prelude.{Option, Some, None, slice_get, nat_lt, ◌||◌}
+use Rattle.std.specs.Prelude.{Option, Some, None, nat_lt, ◌||◌}
 use Rattle.re_tree.specs.declared.fault.Fault.{Fault}
 use Rattle.re_tree.specs.declared.fault.FaultKind.TheVariants.{BadReference}
 use Rattle.py_str.specs.TestsOf.{isidentifier}
@@ -14,10 +14,10 @@ use Rattle.re_parse.specs.declared.shape.Body.{Body}
 use Rattle.re_parse.specs.declared.construct.Construct.{Construct}
 use Rattle.re_parse.specs.declared.construct.Opened.{Opened}
 use Rattle.re_parse.specs.declared.groups.Conditional.{Conditional}
-use Rattle.re_parse.specs.FirstPass.{note, no_body, construct_of, conditionals_at, numbers_at, where_of, add_shape, body_width, closed_shape, close_faults, close_with, close_pass, open_pass, verdict_at, Pass, Verdict}
+use Rattle.re_parse.specs.FirstPass.{note, no_body, construct_of, conditionals_at, numbers_at, where_of, add_shape, body_width, closed_shape, close_faults, close_with, close_pass, open_pass, verdict_at, Pass}
 use Rattle.re_parse.specs.Groups.{conditionals_in}
 use Rattle.re_parse.specs.PassView.{onto}
-use Rattle.re_parse.proofs.FirstFaultLemmas.{nothing_noted, note_more}
+use Rattle.re_parse.proofs.FirstFaultLemmas.{note_more}
 
 pub same_identifiers : (name : List ℕ) → isidentifier name ≡ is_identifier name
 same_identifiers [] = refl
@@ -64,9 +64,6 @@ pub still_open : (p : Pass) (fs : List Opened) → (fs ≡ [] → ⊥) → None 
 still_open p [] h = absurd (h refl)
 still_open p (f ∷ fs) h = sym (none_said p fs f [])
 
-pub none_is_open : (p : Pass) (fs : List Opened) → fs ≡ [] → Some (note p.first (conditional_faults p.groups p.conditionals)) ≡ verdict_at p (onto fs [])
-none_is_open p fs e = ap (λ l. verdict_at p (onto l [])) (sym e)
-
 -- an opening
 pub opens_as : (old : Pass) (begin number groups : ℕ) (o : Opening) (names : Names) (conditionals : List (ℕ × ℕ)) (outer front : List Opened) (construct : Construct) (body : Body) (first : Option Fault)
     → number ≡ old.groups + 1 → groups ≡ old.groups + groups_begun o → names ≡ old.names ++ names_at number o → conditionals ≡ old.conditionals ++ conditionals_at o begin
@@ -103,17 +100,12 @@ closes_not p old front f e s = ap (close_with p f (onto front [])) s ∙ sym (cl
 abbrev pub Noted : ℕ → Option Fault → List Conditional → ℕ → Option Fault → Type 0
 Noted count first cs i found = note first (conditional_faults count (conditionals_in cs)) ≡ note found (conditional_faults count (conditionals_in (drop i cs)))
 
-drop_at : (cs : List Conditional) (i : ℕ) (x : Conditional) → slice_get cs i ≡ Some x → drop i cs ≡ x ∷ drop (i + 1) cs
-drop_at [] i x e = let f : ⊥ = cc e in absurd f
-drop_at (c ∷ cs) zero x e = let f : c ≡ x = cc e in ap (λ z. z ∷ cs) f
-drop_at (c ∷ cs) (suc i) x e = drop_at cs i x e
+drop_at : (cs : List Conditional) (i : ℕ) (x : Conditional) → i < length cs → x ≡ get_or cs i x → drop i cs ≡ x ∷ drop (i + 1) cs
+drop_at cs i x h e = rw add-one (drop-cons cs i x h ∙ ap (λ z. z ∷ drop (suc i) cs) (sym e))
 
-pub noted_more : (count : ℕ) (first found next : Option Fault) (cs : List Conditional) (i : ℕ) (x : Conditional) (wrong : Bool) → slice_get cs i ≡ Some x
+pub noted_more : (count : ℕ) (first found next : Option Fault) (cs : List Conditional) (i : ℕ) (x : Conditional) (wrong : Bool) → i < length cs → x ≡ get_or cs i x
     → Noted count first cs i found → wrong ≡ is_past count x.number → next ≡ note found (only_if wrong x.begin BadReference) → Noted count first cs (i + 1) next
-noted_more count first found next cs i x wrong e h w n =
-    h ∙ ap (λ l. note found (conditional_faults count (conditionals_in l))) (drop_at cs i x e)
+noted_more count first found next cs i x wrong k e h w n =
+    h ∙ ap (λ l. note found (conditional_faults count (conditionals_in l))) (drop_at cs i x k e)
     ∙ sym (note_more found (only_if (is_past count x.number) x.begin BadReference) (conditional_faults count (conditionals_in (drop (i + 1) cs))))
     ∙ ap (λ o. note o (conditional_faults count (conditionals_in (drop (i + 1) cs)))) (sym (n ∙ ap (λ b. note found (only_if b x.begin BadReference)) w))
-
-pub all_noted : (count : ℕ) (first found : Option Fault) (cs : List Conditional) (i : ℕ) → drop i cs ≡ [] → Noted count first cs i found → found ≡ note first (conditional_faults count (conditionals_in cs))
-all_noted count first found cs i e h = nothing_noted found ∙ ap (λ l. note found (conditional_faults count (conditionals_in l))) (sym e) ∙ sym h

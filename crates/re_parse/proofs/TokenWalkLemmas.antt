@@ -1,9 +1,14 @@
 -- Going over the tokens of a pattern one after another: what both passes share.
-use Rattle.std.proofs.Common.{◌≡◌, refl, sym, ◌∙◌, ap, ℕ, zero, suc, ◌+◌, ◌-◌, ◌≤◌, ◌<◌, List, [], ◌∷◌, ◌++◌, length, length-append, arith}
+use Rattle.std.proofs.Common.{◌≡◌, refl, sym, ◌∙◌, ap, ℕ, zero, suc, ◌+◌, ◌-◌, ◌≤◌, ◌<◌, List, [], ◌∷◌, length, length-append, arith}
 use Rattle.std.specs.Prelude.{Option, Some, None}
 use Rattle.re_tree.specs.Tokens.{Token}
 use Rattle.re_tree.specs.Grammar.{Flags}
 use Rattle.re_tree.specs.Reading.{Found, Lexed, lexed, at_end, no_token, lexed_as, next_token, front_token, put_token, token_then, all_tokens}
+use denote.Bor.{Bor}
+use Rattle.re_parse.specs.declared.token.Lexed.{Lexed as LexedInMemory}
+use Rattle.re_parse.specs.declared.token.Lexed.TheVariants.{Token as TokenNext, End, NoToken}
+use Rattle.re_parse.specs.declared.token.Token.{Token as TokenInMemory}
+use Rattle.re_parse.specs.TokenView.{lexed_of}
 use Rattle.re_tree.proofs.TokenWrittenLemmas.{Written, token_written}
 use Rattle.re_tree.proofs.TextLemmas.{token_long, step_at}
 
@@ -29,10 +34,15 @@ pub begins : {S R : Type 0} (w : Walk S R) (flags : Flags) (text : List ℕ) (s 
 begins w flags text s want e = record { within = omega arith; count = length text; enough = omega arith; same = e }
 
 -- what is next in characters that are there
-pub token_in : Lexed → Found
+abbrev pub token_in : Lexed → Found
 token_in (lexed t rest) = Some (t, rest)
 token_in at_end = None
 token_in no_token = None
+
+pub no_token_in : (next : LexedInMemory) → ((t : TokenInMemory) (rest : Bor (List ℕ)) → next ≡ TokenNext t rest → ⊥) → token_in (lexed_of next) ≡ None
+no_token_in (TokenNext t rest) h = absurd (h t rest refl)
+no_token_in End h = refl
+no_token_in NoToken h = refl
 
 token_in_as : (o : Found) → token_in (lexed_as o) ≡ o
 token_in_as None = refl

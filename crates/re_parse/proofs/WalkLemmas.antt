@@ -15,7 +15,7 @@ abbrev said : Pass → Option (List Token) → Verdict
 said p None = None
 said p (Some ts) = pass_end (pass_on (Some p) ts)
 
-nothing_said : (ts : List Token) → pass_end (pass_on None ts) ≡ None
+pub nothing_said : (ts : List Token) → pass_end (pass_on None ts) ≡ None
 nothing_said [] = refl
 nothing_said (t ∷ ts) = nothing_said ts
 
@@ -43,7 +43,7 @@ abbrev made : State → Option (List Token) → Option PlainText
 made s None = None
 made s (Some ts) = finish (run s ts)
 
-nothing_made : (ts : List Token) → finish (run_on None ts) ≡ None
+pub nothing_made : (ts : List Token) → finish (run_on None ts) ≡ None
 nothing_made [] = refl
 nothing_made (t ∷ ts) = nothing_made ts
 

@@ -1,5 +1,5 @@
 -- What is answered of a pattern: its tree, or the one error that it has.
-use Rattle.std.specs.Prelude.{ℕ, Bool, true, false, nat_lt, List, length, Option, Some, None, Result, Ok, Err, if◌then◌else◌}
+use Rattle.std.specs.Prelude.{ℕ, Bool, true, false, nat_lt, List, length, Some, None, Result, Ok, Err, if◌then◌else◌}
 use Rattle.py_base.specs.Reading.{MeetsUnless}
 use Rattle.re_tree.specs.declared.fault.Fault.{Fault}
 use Rattle.re_tree.specs.declared.fault.FaultKind.{FaultKind}

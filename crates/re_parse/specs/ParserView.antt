@@ -1,8 +1,8 @@
 -- The state of the machine that makes a tree, in memory.
-use Rattle.std.specs.Prelude.{ℕ, List, [], ◌∷◌, Option, Some, None}
-use Rattle.re_tree.specs.PlainText.{PlainText, PlainTexts}
+use Rattle.std.specs.Prelude.{List, [], ◌∷◌}
+use Rattle.re_tree.specs.PlainText.{PlainTexts}
 use Rattle.re_tree.specs.TextView.{texts_of}
-use Rattle.re_tree.specs.Machine.{Frame, frame, State, state, regex_of}
+use Rattle.re_tree.specs.Machine.{Frame, frame, State, state}
 use Rattle.re_parse.specs.TokenView.{opening_of}
 use Rattle.re_parse.specs.declared.branches.Branches.{Branches}
 use Rattle.re_parse.specs.declared.parser.Frame.{Frame as FrameInMemory}

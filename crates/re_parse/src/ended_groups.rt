@@ -1,6 +1,6 @@
 //! Which groups of a pattern have ended.
 
-ghost use Rattle.std.specs.Prelude.{◌≡◌, ◌≤◌, ◌++◌, ◌∷◌, [], length, IfOk};
+ghost use Rattle.std.specs.Prelude.{◌≡◌, ◌≤◌, ◌++◌, ◌∷◌, [], false, length, get_or, IfOk};
 ghost use Rattle.re_tree.specs.Faults.{has_number};
 ghost use Rattle.re_parse.specs.EndedGroups.{SayTheSame, SayAlso};
 
@@ -53,6 +53,17 @@ fn with_number(ended: Vec<bool>, number: usize) -> Result<Vec<bool>, AllocError>
     Ok(longer)
 }
 
+// Whether it is true at a number. Past the end it is not.
+fn is_true_at(ended: &[bool], number: &Number) -> bool
+    ensures { result ≡ get_or ended.now number.now false }
+{
+    let count = ended.len();
+    match number.to_usize() {
+        None => false,
+        Some(number) => number < count && ended[number],
+    }
+}
+
 impl EndedGroups {
     // None.
     pub(crate) fn new(alloc: Global) -> EndedGroups
@@ -89,9 +100,6 @@ impl EndedGroups {
     pub(crate) fn has_written(&self, number: &Number) -> bool
         ensures { result ≡ has_number number.now self.now }
     {
-        match number.to_usize() {
-            None => false,
-            Some(number) => self.has(number),
-        }
+        is_true_at(&self.ended, number)
     }
 }

@@ -36,6 +36,16 @@ impl Model for GroupNames {
     ghost invariant = { λ a. AreFirstNumbers a.numbers.entries (names_in a.order.items) };
 }
 
+// The number that a map has for a name, where it has one.
+fn number_of(numbers: &IndexMap<String, usize>, name: &PyStr) -> Option<usize>
+    ensures { result ≡ number_under numbers.now.entries name.now }
+{
+    match numbers.get(name.as_str()) {
+        None => None,
+        Some(number) => Some(*number),
+    }
+}
+
 // Puts the number of a name that is not there.
 fn put_number(
     alloc: Global,
@@ -63,11 +73,10 @@ fn with_name(
 ) -> Result<IndexMap<String, usize>, AllocError>
     ensures { IfOk result (λ longer. HasAlso name.now number numbers.entries longer.entries) }
 {
-    let known = numbers.get(name.as_str()).is_some();
-    if known {
-        return Ok(numbers);
+    match number_of(&numbers, name) {
+        Some(_) => Ok(numbers),
+        None => put_number(alloc, numbers, name, number),
     }
-    put_number(alloc, numbers, name, number)
 }
 
 impl GroupNames {
@@ -85,10 +94,7 @@ impl GroupNames {
     fn number(&self, name: &PyStr) -> Option<usize>
         ensures { result ≡ number_in self.now name.now }
     {
-        match self.numbers.get(name.as_str()) {
-            None => None,
-            Some(number) => Some(*number),
-        }
+        number_of(&self.numbers, name)
     }
 
     // Whether a group has this name.

@@ -1,4 +1,4 @@
-use Rattle.std.proofs.Common.{◌≡◌, ◌∙◌, ap, sym}
+use Rattle.std.proofs.Common.{◌∙◌, ap, sym}
 use Rattle.re_tree.specs.PlainText.{counted}
 use Rattle.re_tree.specs.TextView.{texts_of}
 use Rattle.re_tree.specs.Machine.{snoc}

@@ -1,4 +1,4 @@
-use Rattle.std.proofs.Common.{◌≡◌, ◌∙◌, ap}
+use Rattle.std.proofs.Common.{◌∙◌, ap}
 use Rattle.std.specs.Str.{chars}
 use Rattle.re_parse.proofs.GroupNameLemmas.{put_last}
 use Rattle.re_parse.proofs.group_names.put_number.Goals as goal

@@ -1,5 +1,3 @@
-use Rattle.std.proofs.Common.{◌≡◌, ◌∙◌, ap, ◌++◌, ◌∷◌, [], subst, sym}
-use Rattle.re_parse.specs.EndedGroups.{AreNumbers}
 use Rattle.re_parse.proofs.EndedGroupLemmas.{numbers_pushed}
 use Rattle.re_parse.proofs.ended_groups.EndedGroups.push.Goals as goal
 

@@ -1,4 +1,4 @@
-use Rattle.std.proofs.Common.{◌≡◌, ◌∙◌, ap, sym, unwrap_or}
+use Rattle.std.proofs.Common.{◌∙◌, ap, sym, unwrap_or}
 use Rattle.re_parse.proofs.GroupNameLemmas.{find_is}
 use Rattle.re_parse.proofs.group_names.GroupNames.find.Goals as goal
 

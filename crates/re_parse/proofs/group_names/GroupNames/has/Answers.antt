@@ -1,4 +1,4 @@
-use Rattle.std.proofs.Common.{◌≡◌, ◌∙◌, ap, sym, is_some}
+use Rattle.std.proofs.Common.{◌∙◌, ap, sym, is_some}
 use Rattle.re_parse.proofs.GroupNameLemmas.{has_is}
 use Rattle.re_parse.proofs.group_names.GroupNames.has.Goals as goal
 

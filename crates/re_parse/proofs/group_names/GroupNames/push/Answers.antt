@@ -1,4 +1,4 @@
-use Rattle.std.proofs.Common.{◌≡◌, ◌∙◌, ap, sym}
+use Rattle.std.proofs.Common.{◌∙◌, ap}
 use Rattle.re_parse.specs.GroupNames.{names_in}
 use Rattle.re_parse.proofs.GroupNameLemmas.{names_push, pushed_first}
 use Rattle.re_parse.proofs.group_names.GroupNames.push.Goals as goal

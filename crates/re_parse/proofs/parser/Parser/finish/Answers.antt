@@ -1,4 +1,4 @@
-use Rattle.std.proofs.Common.{◌≡◌, ◌∙◌, ap, sym, rules, length, [], vec_len, ℕ}
+use Rattle.std.proofs.Common.{◌≡◌, ◌∙◌, ap, sym, rules, length, vec_len}
 use Rattle.std.proofs.lemmas.Bool.{eqb-false}
 use Rattle.re_parse.specs.ParserView.{ended_of, last_of}
 use Rattle.re_parse.proofs.BranchLemmas.{still_open}

@@ -1,4 +1,4 @@
-use Rattle.std.proofs.Common.{◌≡◌, ◌∙◌, ap, sym, rules, length, [], vec_len, ℕ}
+use Rattle.std.proofs.Common.{◌≡◌, ◌∙◌, ap, sym, rules, length, vec_len}
 use Rattle.std.proofs.lemmas.Bool.{eqb-false}
 use Rattle.re_parse.specs.PassView.{pass_in}
 use Rattle.re_parse.proofs.PassCodeLemmas.{still_open}
