@@ -1,27 +1,18 @@
 -- What is needed of parts, and what one part more adds to it.
-use Rattle.std.proofs.Common.{◌≡◌, refl, sym, ◌∙◌, ap, subst, ℕ, zero, suc, ◌+◌, ◌==◌, Bool, true, false, List, [], ◌∷◌, ◌++◌, append_assoc, append-nil, length, arith}
+use Rattle.std.proofs.Common.{◌≡◌, refl, sym, ◌∙◌, ap, ℕ, ◌==◌, Bool, true, false, List, ◌++◌, append_assoc, append-nil, arith}
 use Rattle.std.specs.Prelude.{Option, Some, None, cond}
-use Rattle.std.proofs.lemmas.Bool.{eqb-true, eqb-false}
 use Rattle.std.proofs.lemmas.Bool.Decides.{nat_tests}
 use Rattle.re_tree.specs.declared.fault.Fault.{Fault}
 use Rattle.re_parse.specs.declared.shape.Ended.{Ended}
 use Rattle.re_parse.specs.declared.shape.Ended.TheVariants.{Zero, One, More}
 use Rattle.re_parse.specs.declared.shape.Shape.{Shape}
 use Rattle.re_parse.specs.declared.shape.Body.{Body}
-use Rattle.re_parse.specs.declared.construct.Opened.{Opened}
-use Rattle.re_tree.specs.declared.tree.CountMode.{CountMode}
-use Rattle.re_tree.specs.PlainText.{GroupName, numbered, named, PlainText, PlainTexts, unit, anchor, reference, conditional, conditional_else, sequence, alternation, counted, capture, plain, atomic_text, look_text, done, ◌also◌, Names, names_of, all_names, captures, all_captures}
-use Rattle.re_tree.specs.Tokens.{Opening, capturing, non_capturing, atomic_opening, look_opening, conditional_opening, Token, unit_token, anchor_token, reference_token, count_token, open_token, bar, close}
-use Rattle.re_tree.specs.Grammar.{is_countable, Flags}
-use Rattle.re_tree.specs.Reading.{all_tokens}
-use Rattle.re_tree.specs.Widths.{plus, common, times, width, sum_of_widths, common_width}
-use Rattle.re_tree.specs.Machine.{snoc, Frame, frame, State, state, groups_begun, count_last, regex_of, part_of, counted_state, closed_state, close_frame, step, step_on, run, run_on, finish, tree_of_tokens, tree_of_all, read_tree}
-use Rattle.re_tree.specs.Faults.{Where, outermost, numbers_of, all_numbers, names_at, inside, after, after_all, at_reference, at_opening, at_count, at_close, conditional_of, conditionals, all_conditionals, conditional_faults, faults, faults_in_turn, first_of, fault_of}
-use Rattle.re_parse.specs.FirstPass.{earlier, no_body, with_last, pieces_width, add_shape, next, joined_with, body_width, end_branch, counted_if, counted_shape, construct_of, closed_shape, close_faults, Pass, pass_start, where_of, note, numbers_at, conditionals_at, add_piece, count_last_piece, open_pass, close_with, close_pass, pass_step, pass_step_on, pass_on, verdict_at, pass_end, pass_over, first_pass}
-use Rattle.re_tree.specs.Faults.{Verdict, verdict_of}
-use Rattle.re_parse.proofs.FirstFaultLemmas.{first_append}
-use Rattle.re_parse.proofs.PartLemmas.{count_at_last, no_count_at_last}
-use Rattle.re_tree.proofs.SpelledLemmas.{captures_snoc, regex_captures, runs_on, IsState}
+use Rattle.re_tree.specs.PlainText.{PlainText, PlainTexts, sequence, done, ◌also◌, names_of, all_names}
+use Rattle.re_tree.specs.Grammar.{is_countable}
+use Rattle.re_tree.specs.Widths.{plus, common, width, sum_of_widths, common_width}
+use Rattle.re_tree.specs.Machine.{snoc, regex_of}
+use Rattle.re_tree.specs.Faults.{Where, numbers_of, all_numbers, after, after_all, conditionals, all_conditionals, faults, faults_in_turn}
+use Rattle.re_parse.specs.FirstPass.{with_last, add_shape, next, joined_with, body_width, end_branch}
 
 -- widths
 pub plus_zero : (w : Option ℕ) → plus (Some 0) w ≡ plus w (Some 0)

@@ -1,5 +1,5 @@
 -- The first pass over a pattern: a stack of what is open, with what is needed of the parts, and the first fault so far.
-use Rattle.std.specs.Prelude.{ℕ, zero, suc, ◌+◌, Bool, true, false, List, [], ◌∷◌, ◌++◌, length, Option, Some, None}
+use Rattle.std.specs.Prelude.{ℕ, ◌+◌, Bool, true, false, List, [], ◌∷◌, ◌++◌, length, Option, Some, None}
 use Rattle.re_tree.specs.declared.fault.Fault.{Fault}
 use Rattle.re_tree.specs.declared.fault.FaultKind.TheVariants.{NotFixedWidth}
 use Rattle.re_parse.specs.declared.shape.Ended.{Ended}
@@ -9,7 +9,7 @@ use Rattle.re_parse.specs.declared.shape.Body.{Body}
 use Rattle.re_parse.specs.declared.construct.Construct.{Construct}
 use Rattle.re_parse.specs.declared.construct.Construct.TheVariants.{Capture, Group, Lookahead, Lookbehind, Conditional}
 use Rattle.re_parse.specs.declared.construct.Opened.{Opened}
-use Rattle.re_tree.specs.PlainText.{GroupName, numbered, named, PlainText, Names, name_of}
+use Rattle.re_tree.specs.PlainText.{Names}
 use Rattle.re_tree.specs.Tokens.{Opening, capturing, non_capturing, atomic_opening, look_opening, conditional_opening, Token, unit_token, anchor_token, reference_token, count_token, open_token, bar, close}
 use Rattle.re_tree.specs.Grammar.{Flags}
 use Rattle.re_tree.specs.Reading.{all_tokens}

@@ -1,5 +1,12 @@
 pub mod Amounts
+pub mod AnswerRows
+pub mod Answers
 pub mod Digits
+pub mod EndedGroups
 pub mod FirstPass
+pub mod GroupNames
+pub mod Groups
 pub mod Laws
+pub mod ParserView
+pub mod PassView
 pub mod TokenView

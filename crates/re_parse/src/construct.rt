@@ -50,7 +50,7 @@ impl Construct {
 }
 
 // What a lookaround is.
-fn look_shape() -> Shape
+pub(crate) fn look_shape() -> Shape
     ensures { result ≡ record { countable = false; width = Some 0 } }
 {
     Shape {

@@ -1,0 +1,51 @@
+//! Whether a pattern is in the grammar and without a fault.
+
+ghost use Rattle.std.specs.Prelude.{◌≡◌, IfOk};
+ghost use Rattle.re_parse.specs.Answers.{Meets, answer_of};
+ghost use Rattle.re_parse.specs.FirstPass.{first_pass};
+
+use crate::error::{MAX_CHARACTERS, TextError, error_of};
+use crate::pass::Pass;
+use crate::reading::next_token;
+use crate::token::Lexed;
+use re_tree::{Fault, TextFlags};
+use std::alloc::{AllocError, Global};
+
+// What is found in a pattern: nothing where it is not in the grammar, and else its first fault, if
+// it has one.
+fn pass_over(
+    alloc: Global,
+    flags: TextFlags,
+    text: &[char],
+) -> Result<Option<Option<Fault>>, AllocError>
+    ensures { IfOk result (λ found. found ≡ first_pass flags text.now) }
+{
+    let mut pass = Pass::new(alloc);
+    let mut rest = text;
+    'tokens: while !rest.is_empty() {
+        let Lexed::Token(token, after) = next_token(alloc, flags, text.len() - rest.len(), rest)?
+        else {
+            return Ok(None);
+        };
+        let Some(next) = pass.step(alloc, token)? else {
+            return Ok(None);
+        };
+        pass = next;
+        rest = after;
+    }
+    Ok(pass.finish())
+}
+
+// Whether a pattern is answered, and else the error that is.
+pub(crate) fn check_text(alloc: Global, text: &[char], flags: TextFlags) -> Result<(), TextError>
+    ensures { Meets (answer_of flags text.now) result }
+{
+    if MAX_CHARACTERS < text.len() {
+        return Err(TextError::TooLong);
+    }
+    match pass_over(alloc, flags, text)? {
+        None => Err(TextError::NotInGrammar),
+        Some(None) => Ok(()),
+        Some(Some(fault)) => Err(error_of(fault)),
+    }
+}

@@ -1,0 +1,135 @@
+//! The names of the groups of a pattern.
+
+ghost use Rattle.std.specs.Prelude.{◌≡◌, ◌++◌, ◌∷◌, [], None, IfOk};
+ghost use Rattle.re_tree.specs.Faults.{has_name};
+ghost use Rattle.re_tree.specs.PlainText.{find_name};
+ghost use Rattle.re_parse.specs.GroupNames.{number_in, number_under, HasAlso};
+
+use indexmap::IndexMap;
+use py_text::PyStr;
+use std::alloc::{AllocError, Global};
+use std::marker::Model;
+
+// A group with a name.
+#[derive(Debug, Drop)]
+pub(crate) struct Named {
+    name: PyStr,
+    number: usize,
+}
+
+// The names of groups with their numbers, in the order of the pattern. A look-up hashes the name
+// once.
+#[derive(Drop)]
+pub(crate) struct GroupNames {
+    order: Vec<Named>,
+    numbers: IndexMap<String, usize>,
+}
+
+impl Model for GroupNames {
+    ghost use Rattle.re_tree.specs.PlainText.{Names};
+    ghost use Rattle.re_parse.specs.GroupNames.{names_in, AreFirstNumbers};
+
+    ghost Value = { Names };
+
+    ghost view = { λ a. names_in a.order.items };
+
+    ghost invariant = { λ a. AreFirstNumbers a.numbers.entries (names_in a.order.items) };
+}
+
+// The number that a map has for a name, where it has one.
+fn number_of(numbers: &IndexMap<String, usize>, name: &PyStr) -> Option<usize>
+    ensures { result ≡ number_under numbers.now.entries name.now }
+{
+    match numbers.get(name.as_str()) {
+        None => None,
+        Some(number) => Some(*number),
+    }
+}
+
+// Puts the number of a name that is not there.
+fn put_number(
+    alloc: Global,
+    numbers: IndexMap<String, usize>,
+    name: &PyStr,
+    number: usize,
+) -> Result<IndexMap<String, usize>, AllocError>
+    requires { number_under numbers.entries name.now ≡ None }
+    ensures { IfOk result (λ longer. HasAlso name.now number numbers.entries longer.entries) }
+{
+    let mut longer = numbers;
+    let key = String::from_str(alloc, name.as_str())?;
+    match longer.insert(key, number) {
+        Ok(_) => Ok(longer),
+        Err(_) => Err(AllocError),
+    }
+}
+
+// With the number of a name, where it has none before.
+fn with_name(
+    alloc: Global,
+    numbers: IndexMap<String, usize>,
+    name: &PyStr,
+    number: usize,
+) -> Result<IndexMap<String, usize>, AllocError>
+    ensures { IfOk result (λ longer. HasAlso name.now number numbers.entries longer.entries) }
+{
+    match number_of(&numbers, name) {
+        Some(_) => Ok(numbers),
+        None => put_number(alloc, numbers, name, number),
+    }
+}
+
+impl GroupNames {
+    // None.
+    pub(crate) fn new(alloc: Global) -> GroupNames
+        ensures { result ≡ [] }
+    {
+        GroupNames {
+            order: Vec::new(alloc),
+            numbers: IndexMap::new(alloc),
+        }
+    }
+
+    // The number of the first group of a name, where there is one.
+    fn number(&self, name: &PyStr) -> Option<usize>
+        ensures { result ≡ number_in self.now name.now }
+    {
+        number_of(&self.numbers, name)
+    }
+
+    // Whether a group has this name.
+    pub(crate) fn has(&self, name: &PyStr) -> bool
+        ensures { result ≡ has_name self.now name.now }
+    {
+        match self.number(name) {
+            None => false,
+            Some(_) => true,
+        }
+    }
+
+    // The number of the first group of a name, or 0 where there is none.
+    pub(crate) fn find(&self, name: &PyStr) -> usize
+        ensures { result ≡ find_name self.now name.now }
+    {
+        match self.number(name) {
+            None => 0,
+            Some(number) => number,
+        }
+    }
+
+    // With one more.
+    #[tactic(auto, using(crate::proofs::GroupNameLemmas::names_push))]
+    pub(crate) fn push(
+        self,
+        alloc: Global,
+        name: PyStr,
+        number: usize,
+    ) -> Result<GroupNames, AllocError>
+        ensures { IfOk result (λ names. names ≡ self ++ (name, number) ∷ []) }
+    {
+        let numbers = with_name(alloc, self.numbers, &name, number)?;
+        let mut order = self.order;
+        order.push(Named { name, number })?;
+        Ok(GroupNames { order, numbers })
+    }
+}
