@@ -109,41 +109,36 @@ fn bytes(alloc: Global, template: &[u8], value: &[u8]) -> PyResult<PyBytes> {
 
 #[test]
 fn numbers(rt: HostRuntime) -> PyResult<()> {
-    let mut right = 0;
-    for (template, value, wanted) in NUMBERS {
-        if number(rt.alloc(), template, value)?.as_str() == wanted {
-            right += 1;
-        }
+    for (template, value, wanted) in &NUMBERS {
+        let made = number(rt.alloc(), template, *value)?;
+        assert_eq!(rt; made.as_str(), *wanted, "{template}");
     }
-    assert_eq!(rt; right, NUMBERS.len());
     Ok(())
 }
 
 #[test]
 fn strings(rt: HostRuntime) -> PyResult<()> {
-    let mut right = 0;
-    for (template, value, wanted) in STRINGS {
-        if string(rt.alloc(), template, value)?.as_str() == wanted {
-            right += 1;
-        }
+    for (template, value, wanted) in &STRINGS {
+        let made = string(rt.alloc(), template, value)?;
+        assert_eq!(rt; made.as_str(), *wanted, "{template}");
     }
-    for (template, value, wanted) in CHARS {
-        if character(rt.alloc(), template, value)?.as_str() == wanted {
-            right += 1;
-        }
+    Ok(())
+}
+
+#[test]
+fn characters(rt: HostRuntime) -> PyResult<()> {
+    for (template, value, wanted) in &CHARS {
+        let made = character(rt.alloc(), template, *value)?;
+        assert_eq!(rt; made.as_str(), *wanted, "{template}");
     }
-    assert_eq!(rt; right, STRINGS.len() + CHARS.len());
     Ok(())
 }
 
 #[test]
 fn bytes_between_spaces(rt: HostRuntime) -> PyResult<()> {
-    let mut right = 0;
-    for (template, value, wanted) in BYTES {
-        if bytes(rt.alloc(), template, value)?.as_bytes() == wanted {
-            right += 1;
-        }
+    for (template, value, wanted) in &BYTES {
+        let made = bytes(rt.alloc(), template, value)?;
+        assert_eq!(rt; made.as_bytes(), *wanted);
     }
-    assert_eq!(rt; right, BYTES.len());
     Ok(())
 }
