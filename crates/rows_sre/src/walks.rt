@@ -142,6 +142,6 @@ fn letters_past_a_byte(rt: HostRuntime) -> Result<(), Fail> {
     let code = decode(rt.alloc(), &[24, 9, 1, 3, 13, 4, 8, 15, 0, 1, 1], 0)?;
     let subject = PyStr::copy_of(rt.alloc(), "Āa… —“Āb")?;
     let found = text_spans(rt.alloc(), &code, &subject)?;
-    assert_eq!(rt; found.as_slice(), &[(2, 5), (5, 6)]);
+    assert_eq!(rt; found.as_slice(), [(2, 5), (5, 6)].as_slice());
     Ok(())
 }
