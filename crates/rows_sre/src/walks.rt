@@ -75,7 +75,7 @@ fn text_spans(alloc: Global, code: &Checked, subject: &PyStr) -> Result<Spans, M
 }
 
 // A code, a subject, and the spans that repeated calls of `scanner.search` give in CPython.
-const ROWS: [(&[u32], &[u8], &[(usize, usize)]); 6] = [
+const ROWS: [(&[u32], &[u8], &[(usize, usize)]); 10] = [
     // `a` in `ba`
     (&[16, 97, 1], b"ba", &[(1, 2)]),
     // `|a` in `ba` and in `aa`
@@ -106,6 +106,24 @@ const ROWS: [(&[u32], &[u8], &[(usize, usize)]); 6] = [
         b"15x- 25x-9-",
         &[(1, 4), (6, 9), (9, 11)],
     ),
+    // `\d{2,3}` in `1 12 12345`, `\d+?5` in `125 5 15x`, and `\d{2,}+x` in `1x 12x`
+    (
+        &[24, 9, 2, 3, 13, 4, 8, 10, 0, 1, 1],
+        b"1 12 12345",
+        &[(2, 4), (5, 8), (8, 10)],
+    ),
+    (
+        &[26, 9, 1, 4294967295, 13, 4, 8, 10, 0, 1, 16, 53, 1],
+        b"125 5 15x",
+        &[(0, 3), (6, 8)],
+    ),
+    (
+        &[29, 9, 2, 4294967295, 13, 4, 8, 10, 0, 1, 16, 120, 1],
+        b"1x 12x",
+        &[(3, 6)],
+    ),
+    // `\Aa*` in `aab`
+    (&[6, 2, 24, 6, 0, 4294967295, 16, 97, 1, 1], b"aab", &[(0, 2)]),
 ];
 
 #[test]
@@ -124,6 +142,6 @@ fn letters_past_a_byte(rt: HostRuntime) -> Result<(), Fail> {
     let code = decode(rt.alloc(), &[24, 9, 1, 3, 13, 4, 8, 15, 0, 1, 1], 0)?;
     let subject = PyStr::copy_of(rt.alloc(), "Āa… —“Āb")?;
     let found = text_spans(rt.alloc(), &code, &subject)?;
-    assert_eq!(rt; found.as_slice(), &[(2, 5), (5, 6)]);
+    assert_eq!(rt; found.as_slice(), [(2, 5), (5, 6)].as_slice());
     Ok(())
 }

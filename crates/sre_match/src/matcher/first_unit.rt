@@ -1,10 +1,11 @@
 //! The first unit of a tree, and the next place whose unit may be it.
 
-ghost use Rattle.std.specs.Prelude.{◌≡◌, ◌≢◌, ◌+◌, ◌≤◌, ◌<◌, [], true, length, slice_get, IfSome};
+ghost use Rattle.std.specs.Prelude.{◌≡◌, ◌≢◌, ◌+◌, ◌≤◌, ◌<◌, ◌==◌, [], true, length, slice_get, IfSome};
 ghost use Rattle.sre_match.specs.Branches as branches;
 ghost use Rattle.sre_match.specs.FirstUnit as spec;
-ghost use Rattle.sre_match.specs.FirstUnit.{Begins, PassedOver, first_unit_tree};
+ghost use Rattle.sre_match.specs.FirstUnit.{Begins, PassedOver, first_unit_tree, reads_first};
 ghost use Rattle.sre_match.specs.Matches.{Allowed};
+ghost use Rattle.sre_code.specs.PlainTree.{PlainTree};
 ghost use Rattle.sre_code.specs.TreeView.{tree_of};
 
 use crate::matcher::branches::{begins_single, left_of};
@@ -82,9 +83,37 @@ pub fn meets_first(first_unit: &FirstUnit<'_>, unit: u32) -> bool
     }
 }
 
-/// Moves the cursor to the next place whose unit may be the first one, and answers that unit; at
-/// the end of the subject, none. No place that is passed has an allowed outcome.
-pub fn next_candidate<S: StrDrive, L: Ledger>(
+// Moves the cursor to the next unit that is this one, in a loop that looks at no node.
+fn next_literal<S: StrDrive, L: Ledger>(
+    wanted: u32,
+    s: &Subject<'_, S>,
+    cursor: &mut StringCursor,
+    steps: &mut Steps<L>,
+) -> Option<u32>
+    requires fits { S.fits s.now cursor.old ≡ true }
+    requires counter { S.counts L.name }
+    ensures fits { S.fits s.now cursor.new ≡ true }
+    ensures unit { result ≡ slice_get s.now cursor.new.place }
+    ensures within { IfSome result (λ _. cursor.new.place < length s.now) }
+    ensures meets { IfSome result (λ unit. (unit == wanted) ≡ true) }
+    ensures passed { (t : PlainTree) (a : Allowed) → reads_first t 0 (λ c. c == wanted)
+        → PassedOver t s.now cursor.old.place cursor.new.place a }
+    ensures onward { cursor.old.place ≤ cursor.new.place }
+    ensures cost { steps.new + cursor.old.place ≤ steps.old + cursor.new.place + 1 }
+{
+    'units: loop {
+        let Some(unit) = unit_at(s, cursor, steps) else {
+            return None;
+        };
+        if unit == wanted {
+            return Some(unit);
+        }
+        s.skip(cursor, 1);
+    }
+}
+
+// The same of any first unit.
+fn next_tested<S: StrDrive, L: Ledger>(
     first_unit: &FirstUnit<'_>,
     s: &Subject<'_, S>,
     cursor: &mut StringCursor,
@@ -110,5 +139,31 @@ pub fn next_candidate<S: StrDrive, L: Ledger>(
             return Some(unit);
         }
         s.skip(cursor, 1);
+    }
+}
+
+/// Moves the cursor to the next place whose unit may be the first one, and answers that unit; at
+/// the end of the subject, none. No place that is passed has an allowed outcome.
+pub fn next_candidate<S: StrDrive, L: Ledger>(
+    first_unit: &FirstUnit<'_>,
+    s: &Subject<'_, S>,
+    cursor: &mut StringCursor,
+    steps: &mut Steps<L>,
+) -> Option<u32>
+    requires begins { Begins first_unit.now }
+    requires fits { S.fits s.now cursor.old ≡ true }
+    requires counter { S.counts L.name }
+    ensures fits { S.fits s.now cursor.new ≡ true }
+    ensures unit { result ≡ slice_get s.now cursor.new.place }
+    ensures within { IfSome result (λ _. cursor.new.place < length s.now) }
+    ensures meets { IfSome result (λ unit. spec.meets_first first_unit.now unit ≡ true) }
+    ensures passed { (a : Allowed)
+        → PassedOver (first_unit_tree first_unit.now) s.now cursor.old.place cursor.new.place a }
+    ensures onward { cursor.old.place ≤ cursor.new.place }
+    ensures cost { steps.new + cursor.old.place ≤ steps.old + cursor.new.place + 1 }
+{
+    match first_unit {
+        FirstUnit::Single(Node::Lit(wanted), _) => next_literal(*wanted, s, cursor, steps),
+        _ => next_tested(first_unit, s, cursor, steps),
     }
 }

@@ -107,6 +107,7 @@ fn first_turn<'t, S: StrDrive, L: Ledger>(
 }
 
 /// Nodes are next.
+#[inline(always)]
 pub fn nodes_turn<'t, S: StrDrive, L: Ledger>(
     nodes: &'t [Node],
     s: &Subject<'_, S>,

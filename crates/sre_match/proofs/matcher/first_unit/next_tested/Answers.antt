@@ -4,7 +4,7 @@ use Rattle.sre_match.specs.Anchors.{is_met}
 use Rattle.sre_match.specs.FirstUnit.{first_unit_tree, meets_first}
 use Rattle.sre_match.specs.Matches.{Allowed}
 use Rattle.sre_match.proofs.ScanLemmas.{tree_reads_first_unit, passed_none, passed_one, passed_to}
-use Rattle.sre_match.proofs.matcher.first_unit.next_candidate.Goals as goal
+use Rattle.sre_match.proofs.matcher.first_unit.next_tested.Goals as goal
 
 pub units-preserved : goal.units-preserved
 units-preserved g c =

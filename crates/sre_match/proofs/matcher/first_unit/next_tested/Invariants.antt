@@ -1,7 +1,7 @@
 use Rattle.std.proofs.Common.{◌≡◌, ◌-◌, ◌+◌, ◌≤◌, true, length}
 use Rattle.sre_match.specs.FirstUnit.{first_unit_tree, PassedOver}
 use Rattle.sre_match.specs.Matches.{Allowed}
-use Rattle.sre_match.proofs.matcher.first_unit.next_candidate.Given as goal
+use Rattle.sre_match.proofs.matcher.first_unit.next_tested.Given as goal
 
 abbrev pub invariant-units : goal.invariant-units
 invariant-units g l = record {
