@@ -8,7 +8,7 @@ Build the program first: `cd crates/bench_driver && rt run -- modpow 0 1000`.
 
 Each case is one call, made so often that ours take about S seconds of processor time (0.3). From that the
 time of the same process with no call is taken off: its start, and making the text. CPython makes the same
-calls as often, on the same texts and integers. Both times are those of the whole loop, which adds what the
+calls as often, on the same texts and integers. At least five calls are made, of both. Both times are those of the whole loop, which adds what the
 calls give to a sum, and both sums have to be the same. Of a few runs the shortest counts.
 
 With --instructions both are counted in instructions, by valgrind: those of a process with a few calls less
@@ -52,9 +52,10 @@ WORDS = {
     ),
 }
 TEXT_CALLS = ("find", "count", "startswith", "order", "equality", "replace", "split", "slice", "stepped", "join",
-              "iterate")
+              "iterate", "strip", "center", "zfill", "expandtabs", "repr", "encode", "isalpha")
 NUMBER_CALLS = ("modpow", "divmod", "literal", "repr")
 CASES = (*(f"{call}_{language}" for call in TEXT_CALLS for language in WORDS), *NUMBER_CALLS)
+FEWEST = 5  # calls of a run
 
 # A base, a dividend and an integer to be written, each one more at each call.
 FIRST = 12345678901234567890123456789012345678
@@ -88,6 +89,13 @@ def text_calls(call, language, size):
         "stepped": lambda: (sum_of_stepped, text),
         "join": lambda: (sum_of_joined, text.split(), other),
         "iterate": lambda: (sum_of_walks, text),
+        "strip": lambda: (sum_of_stripped, f" {text} "),
+        "center": lambda: (sum_of_centered, text),
+        "zfill": lambda: (sum_of_zero_filled, text),
+        "expandtabs": lambda: (sum_of_expanded, text.replace(" ", "\t")),
+        "repr": lambda: (sum_of_quoted, text),
+        "encode": lambda: (sum_of_encoded, text),
+        "isalpha": lambda: (sum_of_tested, text.replace(" ", "a").replace(",", "b").replace("'", "c")),
     }
     make_sum, *made = makers[call]()
     return lambda times: make_sum(*made, times)
@@ -177,6 +185,55 @@ def sum_of_walks(text, times):
     return total
 
 
+def sum_of_stripped(text, times):
+    total = 0
+    for _ in range(times):
+        total += len(text.strip())
+    return total
+
+
+def sum_of_centered(text, times):
+    total = 0
+    for i in range(times):
+        total += len(text.center(len(text) + 100 + i % 2))
+    return total
+
+
+def sum_of_zero_filled(text, times):
+    total = 0
+    for i in range(times):
+        total += len(text.zfill(len(text) + 100 + i % 2))
+    return total
+
+
+def sum_of_expanded(text, times):
+    total = 0
+    for i in range(times):
+        total += len(text.expandtabs(8 + i % 2))
+    return total
+
+
+def sum_of_quoted(text, times):
+    total = 0
+    for _ in range(times):
+        total += len(repr(text))
+    return total
+
+
+def sum_of_encoded(text, times):
+    total = 0
+    for _ in range(times):
+        total += len(text.encode("utf-8"))
+    return total
+
+
+def sum_of_tested(letters, times):
+    spaced, total = letters + " ", 0
+    for i in range(times):
+        total += letters.isalpha() if i % 2 == 0 else spaced.isalpha()
+    return total
+
+
 def sum_of_powers(times):
     total = 0
     for i in range(times):
@@ -185,10 +242,12 @@ def sum_of_powers(times):
 
 
 def sum_of_quotients(times):
-    total = 0
-    for i in range(times):
-        quotient, remainder = divmod(FIRST + i, DIVISOR)
-        total += (quotient & LAST_DIGITS) + (remainder & LAST_DIGITS)
+    """The dividend and the divisor of a call come from the call before it."""
+    total = last = 0
+    for _ in range(times):
+        quotient, remainder = divmod(FIRST + last, DIVISOR + last)
+        last = (quotient & LAST_DIGITS) + (remainder & LAST_DIGITS)
+        total += last
     return total
 
 
@@ -236,7 +295,7 @@ def calibrated(program, case, size, seconds):
         taken = run_ours(program, case, size, times)[0] - frame
         if taken >= seconds / 4 or times >= 2**28:
             taken = max(taken, 1e-9)
-            return max(1, min(int(times * seconds / taken), 2**30)), taken / times
+            return max(FEWEST, min(int(times * seconds / taken), 2**30)), taken / times
         times *= 4
 
 

@@ -1,3 +1,5 @@
 pub mod LineLemmas
 pub mod ListLemmas
+pub mod NameLemmas
 pub mod TokenLemmas
+pub mod WalkLemmas

@@ -1,3 +1,5 @@
 pub mod Lines
+pub mod Report
 pub mod Results
 pub mod Token
+pub mod Walks

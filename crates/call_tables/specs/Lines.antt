@@ -1,17 +1,23 @@
 -- What the lines of a table add to the counts of a report.
-use Rattle.std.specs.Prelude.{◌≡◌, ◌⊎◌, ℕ, List, [], ◌∷◌, ◌++◌, codes, Result}
+use Rattle.std.specs.Prelude.{◌≡◌, ◌≢◌, ◌⊎◌, ℕ, List, [], ◌∷◌, ◌++◌, All, true, codes, Result}
 use Rattle.py_base.specs.Counts.{one_more}
 use Rattle.call_tables.specs.declared.fault.Fault.{Fault}
 use Rattle.call_tables.specs.declared.report.Tally.{Tally}
 use Rattle.call_tables.specs.declared.token.Token.{Token}
 use Rattle.call_tables.specs.Token.{spaced}
-use Rattle.call_tables.specs.Results.{outcome_text}
+use Rattle.call_tables.specs.Results.{is_of_call, outcome_text}
 
--- The line is a call and its answer: the answer is what the call of this name may give on these arguments.
+-- a name is one word: it is not empty, and has no space
+abbrev pub IsName : List ℕ → Type 0
+IsName name = (name ≢ []) × All (λ b. b ≢ 32) name
+
+-- The line is a call and its answer: the answer is the call's own, and what the call of this name may give on these arguments.
 pub record IsRight (may_give : List ℕ → List Token → Result (List Token) Fault → Type 0) (line : List ℕ) : Type 0 where
   pub name : List ℕ
   pub arguments : List Token
   pub outcome : Result (List Token) Fault
+  pub word : IsName name
+  pub own : is_of_call outcome ≡ true
   pub given : may_give name arguments outcome
   pub written : line ≡ (name ++ spaced arguments) ++ (codes " =" ++ outcome_text outcome)
 

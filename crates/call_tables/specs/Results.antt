@@ -1,8 +1,9 @@
 -- What a call gives, in tokens and as a table writes it.
-use Rattle.std.specs.Prelude.{List, [], ◌∷◌, ℕ, pos, ◌++◌, Bool, true, false, codes, map, length, Result, Ok, Err}
+use Rattle.std.specs.Prelude.{List, [], ◌∷◌, ℕ, pos, ◌++◌, Bool, true, false, codes, encode_utf8_all, map, length, Result, Ok, Err}
 use Rattle.py_base.specs.declared.error.PyError.{PyError}
 use Rattle.py_base.specs.Error.Names.{error_name}
 use Rattle.py_base.specs.Reading.{MeetsUnless}
+use Rattle.py_text.specs.Text.{all_ascii}
 use Rattle.call_tables.specs.declared.fault.Fault.{Fault}
 use Rattle.call_tables.specs.declared.fault.Fault.TheVariants.{NoMemory, BadArguments, NoCall, Error}
 use Rattle.call_tables.specs.declared.token.Token.{Token}
@@ -14,6 +15,14 @@ no_memory NoMemory = true
 no_memory BadArguments = false
 no_memory NoCall = false
 no_memory (Error e) = false
+
+-- whether the call itself gives it: tokens, or an error of its own
+abbrev pub is_of_call : Result (List Token) Fault → Bool
+is_of_call (Ok tokens) = true
+is_of_call (Err (Error e)) = true
+is_of_call (Err BadArguments) = false
+is_of_call (Err NoCall) = false
+is_of_call (Err NoMemory) = false
 
 -- the items of a list that is there
 abbrev pub items_of : {V : Type 0} → (V → List Token) → Result V Fault → Result (List Token) Fault
@@ -36,6 +45,14 @@ one token = token ∷ []
 abbrev pub flag_token : Bool → Token
 flag_token true = Int (pos 1)
 flag_token false = Int (pos 0)
+
+-- the three parts of a text
+abbrev pub part_tokens : List ℕ × List ℕ × List ℕ → List Token
+part_tokens p = Text p.0 ∷ Text p.1 ∷ Text p.2 ∷ []
+
+-- how many code points a text has, how many bytes, and whether all of it is ASCII
+abbrev pub length_tokens : List ℕ → List Token
+length_tokens t = Int (pos (length t)) ∷ Int (pos (length (encode_utf8_all t))) ∷ flag_token (all_ascii t) ∷ []
 
 -- how many texts there are, and then each
 abbrev pub text_tokens : List (List ℕ) → List Token

@@ -6,6 +6,10 @@ pub mod pieces;
 pub mod searches;
 pub mod slices;
 pub mod values;
+mod walks;
+
+ghost use Rattle.std.specs.Prelude.{◌≡◌, ◌↔◌, ◌^◌, ◌-◌, ◌≤ℤ◌, negsuc, pos, IfOk, IsOk, IsOkUnless};
+ghost use Rattle.call_tables.specs.declared.fault.Fault.TheVariants.{BadArguments};
 
 use crate::fault::Fault;
 use crate::token::Token;
@@ -36,7 +40,11 @@ fn size(number: i128) -> Result<usize, Fault> {
 }
 
 /// A number of 64 bits, with a sign.
-pub fn signed(number: i128) -> Result<isize, Fault> {
+pub fn signed(number: i128) -> Result<isize, Fault>
+    ensures ok { IfOk result (λ place. place ≡ number) }
+    ensures fits { IsOk result ↔ ((negsuc (2 ^ 63 - 1) ≤ℤ number) × (number ≤ℤ pos (2 ^ 63 - 1))) }
+    ensures err { IsOkUnless result BadArguments }
+{
     isize::try_from(number).map_err(|_| Fault::BadArguments)
 }
 

@@ -1,6 +1,7 @@
 //! Reading the call of a line: its name, and its arguments one space apart.
 
 ghost use Rattle.std.specs.Prelude.{◌≡◌, ◌++◌, IfOk, OnOk, string_bytes};
+ghost use Rattle.call_tables.specs.Lines.{IsName};
 ghost use Rattle.call_tables.specs.Token.{spaced};
 
 use crate::fault::Fault;
@@ -18,11 +19,16 @@ pub struct Call<'a> {
 
 /// The call of a text, which is read only where it is written as a table writes the call.
 pub fn call_of(alloc: Global, text: &str) -> Result<Call<'_>, Fault>
-    ensures { IfOk result (λ call. text.now ≡ call.name.now ++ spaced call.arguments.items) }
+    ensures written { IfOk result (λ call.
+        text.now ≡ call.name.now ++ spaced call.arguments.items) }
+    ensures name { IfOk result (λ call. IsName call.name.now) }
 {
     let Some((name, words)) = text.split_once(' ') else {
         return Err(Fault::BadArguments);
     };
+    if name.is_empty() {
+        return Err(Fault::BadArguments);
+    }
     let arguments = tokens_of(alloc, words)?;
     let mut again = String::from_str(alloc, name)?;
     write_spaced(&mut again, alloc, &arguments)?;

@@ -1,10 +1,12 @@
 //! The report on calls: how many agree with CPython, by call, and each that does not.
 
-ghost use Rattle.std.specs.Prelude.{◌≡◌, ◌↔◌, IsTrue, OnOk, true, false};
+ghost use Rattle.std.specs.Prelude.{◌≡◌, ◌<◌, ◌↔◌, IsTrue, OnOk};
 ghost use Rattle.std.specs.Process.{exit_status};
 ghost use Rattle.py_base.specs.Counts.{one_more};
+ghost use Rattle.call_tables.specs.Report.{nothing_told, add_call, next_call, in_call, begin_file, tell_agreeing, tell_differing};
 
 use std::alloc::{AllocError, Global};
+use std::marker::Model;
 use std::process::ExitCode;
 
 /// Counts of calls and of those that agree. A count stops at its last number.
@@ -22,9 +24,7 @@ impl Tally {
 
     // One more call, and whether it agrees.
     fn add(&mut self, agrees: bool)
-        ensures calls { self.new.calls ≡ one_more self.old.calls }
-        ensures agreed { agrees ≡ true → self.new.agreeing ≡ one_more self.old.agreeing }
-        ensures differed { agrees ≡ false → self.new.agreeing ≡ self.old.agreeing }
+        ensures { self.new ≡ add_call agrees self.old }
     {
         self.calls = self.calls.saturating_add(1);
         if agrees {
@@ -34,19 +34,34 @@ impl Tally {
 }
 
 /// The text of a report, the counts of the call whose lines are being read, and those of all.
+/// Contracts see all of these.
 #[derive(Drop)]
 pub struct Report {
     text: String,
     call: String,
     current: Tally,
-    pub all: Tally,
+    all: Tally,
+}
+
+impl Model for Report {
+    ghost use Rattle.std.specs.Prelude.{string_bytes};
+    ghost use Rattle.call_tables.specs.Report.{Told};
+
+    ghost Value = { Told };
+
+    ghost view = { λ report.
+        record {
+          text = string_bytes report.text;
+          call = string_bytes report.call;
+          current = report.current;
+          all = report.all;
+        } };
 }
 
 impl Report {
     /// An empty report.
     pub fn new(alloc: Global) -> Report
-        ensures calls { result.all.calls ≡ 0 }
-        ensures agreeing { result.all.agreeing ≡ 0 }
+        ensures { result ≡ nothing_told }
     {
         Report {
             text: String::new(alloc),
@@ -58,48 +73,17 @@ impl Report {
 
     /// Begins the lines of a file.
     pub fn begin(&mut self, file: &str) -> Result<(), AllocError>
-        ensures { self.new.all ≡ self.old.all }
+        ensures told { OnOk result (self.new ≡ begin_file file.now self.old) }
+        ensures counts { self.new.all ≡ self.old.all }
     {
-        self.end_call()?;
+        self.turn_to("")?;
         write!(self.text, "{file}\n")
     }
 
-    // Begins the lines of a call, unless the line before is one of them.
+    // Begins the lines of a call.
     fn turn_to(&mut self, name: &str) -> Result<(), AllocError>
-        ensures { self.new.all ≡ self.old.all }
-    {
-        if self.call.as_str() != name {
-            self.end_call()?;
-            self.call.push_str(name)?;
-        }
-        Ok(())
-    }
-
-    /// Adds a line of the call of this name, which gives what the line wants.
-    pub fn agree(&mut self, name: &str) -> Result<(), AllocError>
-        ensures calls { OnOk result (self.new.all.calls ≡ one_more self.old.all.calls) }
-        ensures agreeing { OnOk result (self.new.all.agreeing ≡ one_more self.old.all.agreeing) }
-    {
-        self.turn_to(name)?;
-        self.current.add(true);
-        self.all.add(true);
-        Ok(())
-    }
-
-    /// Adds a line of the call of this name, which gives something else.
-    pub fn differ(&mut self, name: &str, line: &str, given: &str) -> Result<(), AllocError>
-        ensures calls { OnOk result (self.new.all.calls ≡ one_more self.old.all.calls) }
-        ensures agreeing { OnOk result (self.new.all.agreeing ≡ self.old.all.agreeing) }
-    {
-        self.turn_to(name)?;
-        self.current.add(false);
-        self.all.add(false);
-        write!(self.text, "  differs: {line}\n    gives{given}\n")
-    }
-
-    // Writes the counts of the call whose lines have ended, if there is one.
-    fn end_call(&mut self) -> Result<(), AllocError>
-        ensures { self.new.all ≡ self.old.all }
+        ensures told { OnOk result (self.new ≡ next_call name.now self.old) }
+        ensures counts { self.new.all ≡ self.old.all }
     {
         if self.current.calls > 0 {
             let call = self.call.as_str();
@@ -108,33 +92,81 @@ impl Report {
         }
         self.call.clear();
         self.current = Tally::EMPTY;
+        self.call.push_str(name)
+    }
+
+    // Begins the lines of a call, unless the line before is one of them.
+    fn stay_in(&mut self, name: &str) -> Result<(), AllocError>
+        ensures told { OnOk result (self.new ≡ in_call name.now self.old) }
+        ensures counts { self.new.all ≡ self.old.all }
+    {
+        if self.call.as_str() == name {
+            Ok(())
+        } else {
+            self.turn_to(name)
+        }
+    }
+
+    /// Adds a line of the call of this name, which gives what the line wants.
+    pub fn agree(&mut self, name: &str) -> Result<(), AllocError>
+        ensures told { OnOk result (self.new ≡ tell_agreeing name.now self.old) }
+        ensures calls { OnOk result (self.new.all.calls ≡ one_more self.old.all.calls) }
+        ensures agreeing { OnOk result (self.new.all.agreeing ≡ one_more self.old.all.agreeing) }
+    {
+        self.stay_in(name)?;
+        self.current.add(true);
+        self.all.add(true);
         Ok(())
+    }
+
+    /// Adds a line of the call of this name, which gives something else.
+    pub fn differ(&mut self, name: &str, line: &str, given: &str) -> Result<(), AllocError>
+        ensures told { OnOk result
+            (self.new ≡ tell_differing name.now line.now given.now self.old) }
+        ensures calls { OnOk result (self.new.all.calls ≡ one_more self.old.all.calls) }
+        ensures agreeing { OnOk result (self.new.all.agreeing ≡ self.old.all.agreeing) }
+    {
+        self.stay_in(name)?;
+        self.current.add(false);
+        self.all.add(false);
+        write!(self.text, "  differs: {line}\n    gives{given}\n")
     }
 
     /// Writes the counts of all.
     pub fn end(&mut self) -> Result<(), AllocError>
         ensures { self.new.all ≡ self.old.all }
     {
-        self.end_call()?;
         let Tally { calls, agreeing } = self.all;
+        self.turn_to("")?;
         write!(self.text, "{agreeing} of {calls} calls agree\n")
     }
 
     /// The text of the report.
-    pub fn text(&self) -> &str {
+    pub fn text(&self) -> &str
+        ensures { result.now ≡ self.now.text }
+    {
         self.text.as_str()
     }
 
-    /// Whether each call agrees.
-    pub fn is_clean(&self) -> bool
-        ensures { IsTrue result ↔ (self.now.all.calls ≡ self.now.all.agreeing) }
+    /// The counts of all.
+    pub fn all(&self) -> Tally
+        ensures { result ≡ self.now.all }
     {
-        self.all.calls == self.all.agreeing
+        self.all
+    }
+
+    /// Whether there are calls, and each agrees.
+    pub fn is_clean(&self) -> bool
+        ensures { IsTrue result
+            ↔ ((0 < self.now.all.calls) × (self.now.all.calls ≡ self.now.all.agreeing)) }
+    {
+        self.all.calls > 0 && self.all.calls == self.all.agreeing
     }
 
     /// The status of a program that prints the report: 0 or 1.
     pub fn exit_code(&self) -> ExitCode
-        ensures { (exit_status result ≡ 0) ↔ (self.now.all.calls ≡ self.now.all.agreeing) }
+        ensures { (exit_status result ≡ 0)
+            ↔ ((0 < self.now.all.calls) × (self.now.all.calls ≡ self.now.all.agreeing)) }
     {
         if self.is_clean() {
             ExitCode::SUCCESS

@@ -1,8 +1,8 @@
 //! What a call gives, in tokens: its value, or its own error.
 
-ghost use Rattle.std.specs.Prelude.{◌≡◌, pos, [], ◌∷◌, IfOk, Ok, string_bytes};
+ghost use Rattle.std.specs.Prelude.{◌≡◌, pos, [], ◌∷◌, IfOk, Ok, chars, string_bytes};
 ghost use Rattle.std.specs.Vec.{vec_items};
-ghost use Rattle.call_tables.specs.Results.{Tells, items_of, told, one, flag_token, text_tokens, outcome_text};
+ghost use Rattle.call_tables.specs.Results.{Tells, items_of, told, one, flag_token, is_of_call, length_tokens, part_tokens, text_tokens, outcome_text};
 
 use crate::fault::Fault;
 use crate::token::{Token, write_spaced};
@@ -30,7 +30,14 @@ pub fn number(alloc: Global, number: i128) -> Outcome
 pub fn flag(alloc: Global, flag: bool) -> Outcome
     ensures { Tells (Ok (one (flag_token flag))) (items_of vec_items result) }
 {
-    one(alloc, Token::Int(if flag { 1 } else { 0 }))
+    one(alloc, flag_of(flag))
+}
+
+// A bool as a number.
+fn flag_of(flag: bool) -> Token
+    ensures { result ≡ flag_token flag }
+{
+    Token::Int(if flag { 1 } else { 0 })
 }
 
 pub fn text(alloc: Global, outcome: PyResult<PyStr>) -> Outcome
@@ -98,13 +105,61 @@ pub fn copy_of(alloc: Global, text: &PyStr) -> Result<PyStr, AllocError>
 }
 
 /// The tokens of the three parts of a text.
-pub fn parts(alloc: Global, outcome: PyResult<Partition<'_>>) -> Outcome {
+pub fn parts(alloc: Global, outcome: PyResult<Partition<'_>>) -> Outcome
+    ensures { Tells
+        (told (λ p. part_tokens (chars p.front.now, chars p.mid.now, chars p.back.now))
+        outcome.entry)
+        (items_of vec_items result) }
+{
     let Partition { front, mid, back } = outcome?;
-    let mut tokens = Vec::new(alloc);
-    for part in [front, mid, back] {
-        tokens.push(Token::Text(PyStr::copy_of(alloc, part)?))?;
+    let tokens = [
+        Token::Text(text_of(alloc, front)?),
+        Token::Text(text_of(alloc, mid)?),
+        Token::Text(text_of(alloc, back)?),
+    ];
+    Ok(Vec::from_array(alloc, tokens)?)
+}
+
+// A part of a text as a text of its own.
+fn text_of(alloc: Global, part: &str) -> Result<PyStr, AllocError>
+    ensures { IfOk result (λ copy. copy ≡ chars part.now) }
+{
+    match PyStr::copy_of(alloc, part) {
+        Ok(copy) => Ok(copy),
+        Err(_) => Err(AllocError),
     }
-    Ok(tokens)
+}
+
+/// How many code points a text has, how many bytes, and whether all of it is ASCII.
+pub fn lengths(alloc: Global, text: &PyStr) -> Outcome
+    ensures { Tells (Ok (length_tokens text.now)) (items_of vec_items result) }
+{
+    let tokens = [
+        Token::Int(text.char_len() as i128),
+        Token::Int(text.byte_len() as i128),
+        flag_of(text.is_ascii()),
+    ];
+    Ok(Vec::from_array(alloc, tokens)?)
+}
+
+/// An integer, and the denominator that comes with it.
+pub fn ratio(alloc: Global, ratio: (PyInt, i32)) -> Outcome
+    ensures { Tells (Ok (Token.Int ratio.0 ∷ Token.Int ratio.1 ∷ [])) (items_of vec_items result) }
+{
+    let (numerator, denominator) = ratio;
+    let tokens = [
+        Token::Int(numerator.as_i128()),
+        Token::Int(i128::from(denominator)),
+    ];
+    Ok(Vec::from_array(alloc, tokens)?)
+}
+
+/// Whether an outcome is the call's own: tokens, or an error of the call. It is not where the line
+/// is no call of the table.
+pub fn is_of_call(outcome: &Outcome) -> bool
+    ensures { result ≡ is_of_call (items_of vec_items outcome.now) }
+{
+    matches!(outcome, Ok(_) | Err(Fault::Error(_)))
 }
 
 /// An outcome as a table writes it, each word after a space.

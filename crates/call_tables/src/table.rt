@@ -9,7 +9,7 @@ ghost use Rattle.call_tables.specs.Results.{items_of};
 use crate::calls::{forms, numbers, pieces, searches, slices, values};
 use crate::reading::call_of;
 use crate::report::Report;
-use crate::results::{Outcome, written};
+use crate::results::{Outcome, is_of_call, written};
 use crate::token::Token;
 use std::alloc::{AllocError, Global};
 
@@ -95,7 +95,7 @@ fn add_line<C: Calls>(
         Ok(call) => {
             let outcome = table.answer(alloc, call.name, &call.arguments);
             let given = written(alloc, &outcome)?;
-            if given.as_str() == wanted {
+            if is_of_call(&outcome) && given.as_str() == wanted {
                 report.agree(call.name)
             } else {
                 report.differ(call.name, line, given.as_str())

@@ -6,7 +6,7 @@ use std::test::Fail;
 use timed_calls::{Language, Request, text_of, text_with_end};
 
 // Three calls of each kind on texts of 300 code points, with the sums that CPython gives.
-const SUMS: [(&str, i128); 26] = [
+const SUMS: [(&str, i128); 40] = [
     ("find_ascii", 879),
     ("find_french", 876),
     ("count_ascii", 9),
@@ -29,8 +29,22 @@ const SUMS: [(&str, i128); 26] = [
     ("join_french", 2385),
     ("iterate_ascii", 96),
     ("iterate_french", 96),
+    ("strip_ascii", 897),
+    ("strip_french", 897),
+    ("center_ascii", 1201),
+    ("center_french", 1201),
+    ("zfill_ascii", 1201),
+    ("zfill_french", 1201),
+    ("expandtabs_ascii", 1500),
+    ("expandtabs_french", 1671),
+    ("repr_ascii", 906),
+    ("repr_french", 906),
+    ("encode_ascii", 900),
+    ("encode_french", 1017),
+    ("isalpha_ascii", 2),
+    ("isalpha_french", 2),
     ("modpow", 91802),
-    ("divmod", 186861),
+    ("divmod", 113918),
     ("literal", 186837),
     ("repr", 114),
 ];

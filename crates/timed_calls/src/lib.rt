@@ -1,12 +1,14 @@
 //! One call on a text or on integers, made over and over, and the sum of what it gives.
 #![tactic(auto)]
 
+mod more_texts;
 mod numbers;
 mod request;
 mod sample_texts;
 mod searches;
 mod texts;
 
+pub use more_texts::MoreCall;
 pub use numbers::NumberCall;
 pub use request::{Call, Request};
 pub use sample_texts::{Language, text_of, text_with_end};

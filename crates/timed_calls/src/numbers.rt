@@ -26,7 +26,7 @@ impl NumberCall {
     }
 }
 
-// A base, a dividend and an integer to be written, each one more at each call.
+// A base and an integer to be written, each one more at each call, and the first dividend.
 const FIRST: i128 = 12345678901234567890123456789012345678;
 
 const EXPONENT: i128 = 98765432109876543210987654321;
@@ -67,15 +67,17 @@ fn powers(times: u32) -> PyResult<i128> {
     Ok(sum)
 }
 
-// Quotients and remainders.
+// Quotients and remainders. The dividend and the divisor of a call come from the call before it, so
+// that none can be made ahead of its turn.
 fn quotients(times: u32) -> PyResult<i128> {
-    let divisor = PyInt::from(DIVISOR);
     let mut sum = 0i128;
-    for i in 0..times {
-        let dividend = PyInt::from(FIRST + i128::from(i));
+    let mut last = 0i128;
+    for _ in 0..times {
+        let dividend = PyInt::from(FIRST.wrapping_add(last));
+        let divisor = PyInt::from(DIVISOR.wrapping_add(last));
         let (quotient, remainder) = dividend.divmod(divisor)?;
-        sum = sum.wrapping_add(last_digits(quotient));
-        sum = sum.wrapping_add(last_digits(remainder));
+        last = last_digits(quotient).wrapping_add(last_digits(remainder));
+        sum = sum.wrapping_add(last);
     }
     Ok(sum)
 }

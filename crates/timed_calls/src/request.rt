@@ -1,10 +1,11 @@
 //! What the command line asks for: a call, the size of its text, and how often it is made.
 
+use crate::more_texts::MoreCall;
 use crate::numbers::NumberCall;
 use crate::sample_texts::Language;
 use crate::searches::SearchCall;
 use crate::texts::TextCall;
-use crate::{numbers, searches, texts};
+use crate::{more_texts, numbers, searches, texts};
 use py_base::PyResult;
 use std::alloc::Global;
 
@@ -13,6 +14,7 @@ use std::alloc::Global;
 pub enum Call {
     Search(SearchCall, Language),
     OnText(TextCall, Language),
+    More(MoreCall, Language),
     OnNumbers(NumberCall),
 }
 
@@ -23,10 +25,17 @@ impl Call {
             return Some(Call::OnNumbers(call));
         }
         let (call, language) = name.split_once('_')?;
-        let language = Language::of_name(language)?;
-        match SearchCall::of_name(call) {
-            Some(call) => Some(Call::Search(call, language)),
-            None => Some(Call::OnText(TextCall::of_name(call)?, language)),
+        Call::on_text(call, Language::of_name(language)?)
+    }
+
+    // The call of a name on a text.
+    fn on_text(name: &str, language: Language) -> Option<Call> {
+        if let Some(call) = SearchCall::of_name(name) {
+            return Some(Call::Search(call, language));
+        }
+        match TextCall::of_name(name) {
+            Some(call) => Some(Call::OnText(call, language)),
+            None => Some(Call::More(MoreCall::of_name(name)?, language)),
         }
     }
 }
@@ -56,6 +65,7 @@ impl Request {
         match call {
             Call::Search(call, language) => searches::sum(alloc, call, language, size, times),
             Call::OnText(call, language) => texts::sum(alloc, call, language, size, times),
+            Call::More(call, language) => more_texts::sum(alloc, call, language, size, times),
             Call::OnNumbers(call) => numbers::sum(alloc, call, times),
         }
     }

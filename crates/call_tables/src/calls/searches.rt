@@ -2,7 +2,7 @@
 
 use super::{optional, order_number};
 use crate::fault::Fault;
-use crate::results::{Outcome, copy_of, flag, number, place};
+use crate::results::{Outcome, copy_of, flag, lengths, number, place};
 use crate::token::Token;
 use py_text::{FindArgs, PyBytes, PyStr};
 use std::alloc::Global;
@@ -26,17 +26,11 @@ pub fn answer(alloc: Global, name: &str, arguments: &[Token]) -> Outcome {
     }
 }
 
-// Code points, bytes, and whether all is ASCII.
 fn of_text(alloc: Global, name: &str, text: &PyStr) -> Outcome {
-    if name != "lengths" {
-        return Err(Fault::NoCall);
+    match name {
+        "lengths" => lengths(alloc, text),
+        _ => Err(Fault::NoCall),
     }
-    let tokens = [
-        Token::Int(text.char_len() as i128),
-        Token::Int(text.byte_len() as i128),
-        Token::Int(i128::from(text.is_ascii())),
-    ];
-    Ok(Vec::from_array(alloc, tokens)?)
 }
 
 fn of_two(alloc: Global, name: &str, text: &PyStr, other: &PyStr) -> Outcome {

@@ -2,12 +2,13 @@
 
 ghost use Rattle.std.specs.Prelude.{◌≤◌, length, IfOk};
 
+use super::walks::{reduced, walked};
 use super::{optional, signed, size};
 use crate::fault::Fault;
-use crate::results::{Outcome, copy_of, one, text};
+use crate::results::{Outcome, text};
 use crate::token::Token;
 use py_base::PyResult;
-use py_text::{IterState, PyStr, PyStrIterator};
+use py_text::PyStr;
 use std::alloc::Global;
 use std::ops::Range;
 
@@ -69,22 +70,6 @@ fn do_get(alloc: Global, subject: &PyStr, index: usize) -> Outcome {
         return Err(Fault::BadArguments);
     }
     text(alloc, PyStr::from_char(alloc, subject.do_get(index)))
-}
-
-// Where an iterator is after so many steps.
-fn reduced(alloc: Global, subject: &PyStr, steps: usize) -> Outcome {
-    let shared = PyStr::new_ref(alloc, copy_of(alloc, subject)?)?;
-    let mut walker = PyStrIterator::new(shared);
-    for _ in 0..steps {
-        let _ = walker.next();
-    }
-    match walker.reduce() {
-        IterState::Active(text, place) => {
-            let token = Token::Text(copy_of(alloc, text.as_pystr())?);
-            Ok(Vec::from_array(alloc, [token, Token::Int(place as i128)])?)
-        }
-        IterState::Exhausted => one(alloc, Token::Missing),
-    }
 }
 
 fn letter_at(alloc: Global, subject: &PyStr, index: i128) -> PyResult<PyStr> {
@@ -153,45 +138,10 @@ fn stepped(alloc: Global, name: &str, subject: &PyStr, range: Range<usize>, step
     }
 }
 
-// Goes through a text by steps, and tells what each step gives.
+// What each step of an iterator gives.
 fn iterate(alloc: Global, name: &str, subject: &PyStr, steps: &[Token]) -> Outcome {
-    if name != "iterate" {
-        return Err(Fault::NoCall);
-    }
-    let shared = PyStr::new_ref(alloc, copy_of(alloc, subject)?)?;
-    walked(alloc, PyStrIterator::new(shared), steps)
-}
-
-fn walked(alloc: Global, mut walker: PyStrIterator, steps: &[Token]) -> Outcome {
-    let mut given = Vec::new(alloc);
-    for step in steps {
-        if let Some(token) = step_of(alloc, &mut walker, step)? {
-            given.push(token)?;
-        }
-    }
-    let mut tokens = vec![in alloc; Token::Count(given.len())]?;
-    for token in given {
-        tokens.push(token)?;
-    }
-    Ok(tokens)
-}
-
-// What one step gives, which is nothing where it puts the iterator at a place.
-fn step_of(
-    alloc: Global,
-    walker: &mut PyStrIterator,
-    step: &Token,
-) -> Result<Option<Token>, Fault> {
-    match step {
-        Token::Next => match walker.next() {
-            Some(letter) => Ok(Some(Token::Text(PyStr::from_char(alloc, letter)?))),
-            None => Ok(Some(Token::Missing)),
-        },
-        Token::Hint => Ok(Some(Token::Int(walker.length_hint() as i128))),
-        Token::Int(place) => {
-            walker.setstate(*place);
-            Ok(None)
-        }
-        _ => Err(Fault::BadArguments),
+    match name {
+        "iterate" => walked(alloc, subject, steps),
+        _ => Err(Fault::NoCall),
     }
 }

@@ -2,7 +2,7 @@
 
 use super::flag as bool_of;
 use crate::fault::Fault;
-use crate::results::{Outcome, flag, int, number, text};
+use crate::results::{Outcome, flag, int, number, ratio, text};
 use crate::token::Token;
 use py_int::{PyBool, PyInt};
 use py_text::PyStr;
@@ -61,19 +61,10 @@ fn of_int(alloc: Global, name: &str, one: PyInt) -> Outcome {
     match name {
         "imag" => number(alloc, one.imag() as i128),
         "denominator" => number(alloc, one.denominator() as i128),
-        "as_integer_ratio" => ratio(alloc, one),
+        "as_integer_ratio" => ratio(alloc, one.as_integer_ratio()),
         "bool" => flag(alloc, one.bool()),
         _ => Err(Fault::NoCall),
     }
-}
-
-fn ratio(alloc: Global, one: PyInt) -> Outcome {
-    let (numerator, denominator) = one.as_integer_ratio();
-    let tokens = [
-        Token::Int(numerator.as_i128()),
-        Token::Int(i128::from(denominator)),
-    ];
-    Ok(Vec::from_array(alloc, tokens)?)
 }
 
 fn of_bools(alloc: Global, name: &str, one: PyBool, other: PyBool) -> Outcome {

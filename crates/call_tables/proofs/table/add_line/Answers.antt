@@ -1,4 +1,4 @@
-use Rattle.std.proofs.Common.{rules, ◌≡◌, OnOk, ◌++◌, ◌∙◌, ap, sym, codes, Some}
+use Rattle.std.proofs.Common.{rules, ◌≡◌, ◌++◌, ◌∙◌, ap, sym, codes, Some}
 use Rattle.std.proofs.lemmas.Str.Pattern.{split_text_parts}
 use Rattle.std.specs.Vec.{vec_items}
 use Rattle.call_tables.specs.Lines.{IsRight}
@@ -15,11 +15,13 @@ returns-then-eq g c =
     let told : c.in-Some.wanted.now ≡ outcome_text (items_of vec_items c.answer-outcome.result) =
     sym same ∙ c.as_str.ensures.value ∙ c.in_ok-given-in-Ok.ensures in
     let called : c.in-Some.text.now ≡ c.in-Ok.call.name.now ++ spaced c.deref.result.now =
-    c.in-Ok.ensures ∙ ap (λ ts. c.in-Ok.call.name.now ++ spaced ts) (sym c.deref.ensures.value) in
+    c.in-Ok.ensures.written ∙ ap (λ ts. c.in-Ok.call.name.now ++ spaced ts) (sym c.deref.ensures.value) in
     let right : IsRight (g.C.Calls.may_give c.args.table.now) c.args.line.now = record {
       name = c.in-Ok.call.name.now;
       arguments = c.deref.result.now;
       outcome = items_of vec_items c.answer-outcome.result;
+      word = c.in-Ok.ensures.name;
+      own = sym c.is_of_call.ensures ∙ c.if-is_of_call.true;
       given = c.answer-outcome.ensures;
       written = cut ∙ ap (λ t. t ++ (codes " =" ++ c.in-Some.wanted.now)) called
           ∙ ap (λ w. (c.in-Ok.call.name.now ++ spaced c.deref.result.now) ++ (codes " =" ++ w)) told;

@@ -1,4 +1,4 @@
-use Rattle.std.proofs.Common.{rules, ◌≡◌, List, ℕ, Bor, map}
+use Rattle.std.proofs.Common.{rules, List, ℕ, Bor}
 use Rattle.std.proofs.lemmas.Iterator.{YieldsList}
 use Rattle.std.proofs.lemmas.Iterator.Consumers.{YieldsList-end}
 use Rattle.std.proofs.lemmas.Iterator.Splits.{YieldsList-from_lines}
@@ -18,4 +18,4 @@ returns g c =
     YieldsList-from_lines c.args.text.now (search rules) in
     let all = YieldsList-end road c.loop-line.yielded _ c.loop-line.yielded_by _ _ c.in-None.is c.next.ensures.steps in
     all_told (g.C.Calls.may_give c.args.table.now) c.loop-line.yielded (lines c.args.text.now) c.args.report.now.all c.begin.new.self.all
-    c.loop-line.report.all c.loop-line.invariant all.0 c.begin.ensures
+    c.loop-line.report.all c.loop-line.invariant all.0 c.begin.ensures.counts

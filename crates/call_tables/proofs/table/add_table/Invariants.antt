@@ -1,4 +1,4 @@
-use Rattle.std.proofs.Common.{◌≡◌, map}
+use Rattle.std.proofs.Common.{map}
 use Rattle.call_tables.specs.Lines.{AddsLines}
 use Rattle.call_tables.proofs.table.add_table.Given as goal
 
