@@ -77,10 +77,9 @@ fn many_names(alloc: Global, count: u32) -> PyResult<PyStr> {
     let mut text = PyStr::new(alloc);
     for n in 0..count {
         text.append("(?P<n")?;
-        let mut place = 10_000;
-        while place > 0 {
-            text.append_char(char::from((n / place % 10 + 48) as u8))?;
-            place /= 10;
+        for place in [10_000_u32, 1_000, 100, 10, 1] {
+            let digit = n.checked_div(place).unwrap_or(0) % 10;
+            text.append_char(char::from(b'0' + digit as u8))?;
         }
         text.append(">a)(?P=n00000)")?;
     }

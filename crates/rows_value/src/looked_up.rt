@@ -141,7 +141,8 @@ fn of_a_host_whose_items_fail(rt: HostRuntime) -> Result<(), PyError> {
     let alloc = rt.alloc();
     let mut fails = Vec::new(alloc);
     fails.push(1)?;
-    let mut items = five(alloc, HostMethod::GetItem, int(0), fails)?;
+    let key = Value::Int(PyInt::from(0));
+    let mut items = five(alloc, HostMethod::GetItem, key, fails)?;
     let failed = get_item(alloc, &mut items, &Value::Handle(7), &int(0));
     assert!(rt; matches!(failed, Err(PyError::HostFault)));
     let found = get_item(alloc, &mut items, &Value::Handle(7), &int(0))?;

@@ -2,6 +2,7 @@
 
 use crate::made::{host, int, text};
 use py_base::{ClassName, MaketransKind, OptionalArg, PyError, PyResult, TranslateKind};
+use py_int::PyInt;
 use py_text::PyStr;
 use py_value::{DictKey, Host, HostMethod, NoHost, PyDict, StrValues, TableHost, Value, ValueList};
 use std::alloc::Global;
@@ -80,13 +81,9 @@ fn tables_that_are_refused(rt: HostRuntime) -> Result<(), PyError> {
 
 /// A host that has an `x` under one code point.
 fn items(alloc: Global, code: i128, fails: Vec<u64>) -> PyResult<TableHost> {
-    host(
-        alloc,
-        HostMethod::GetItem,
-        int(code),
-        text(alloc, "x")?,
-        fails,
-    )
+    let key = Value::Int(PyInt::from(code));
+    let answer = text(alloc, "x")?;
+    host(alloc, HostMethod::GetItem, key, answer, fails)
 }
 
 #[test]
