@@ -10,4 +10,5 @@ mod NumeralLemmas
 mod PartLemmas
 mod ReaderLemmas
 mod RunLemmas
+mod WidthLemmas
 mod WritingLemmas

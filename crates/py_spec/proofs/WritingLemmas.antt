@@ -36,10 +36,10 @@ pub cut_all : (n : ℕ) (units : List ℕ) → length units ≤ n → units ≡ 
 cut_all n units h = sym (take_all n units h)
 
 -- zeros up to the precision, after those up to the width
-zeros_joined : (fill least : ℕ) (ds : List ℕ) → zeros (fill + least) ++ ds ≡ zeros fill ++ (zeros least ++ ds)
+pub zeros_joined : (fill least : ℕ) (ds : List ℕ) → zeros (fill + least) ++ ds ≡ zeros fill ++ (zeros least ++ ds)
 zeros_joined fill least ds = ap (λ (z : List ℕ). z ++ ds) (sym (replicate-append-replicate fill least 48)) ∙ append_assoc (zeros fill) (zeros least) ds
 
-zeros_length : (n : ℕ) (ds : List ℕ) → length (zeros n ++ ds) ≡ n + length ds
+pub zeros_length : (n : ℕ) (ds : List ℕ) → length (zeros n ++ ds) ≡ n + length ds
 zeros_length n ds = omega (arith, length-append (zeros n) ds, length-replicate {A = ℕ} n 48)
 
 head_length : (sign prefix ds : List ℕ) (n : ℕ) → length ((sign ++ prefix) ++ (zeros n ++ ds)) ≡ length sign + length prefix + n + length ds

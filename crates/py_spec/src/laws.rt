@@ -1,6 +1,6 @@
 //! Laws of percent templates: facts that follow from the definitions.
 
-ghost use Rattle.py_spec.specs.Laws.{FullLiterals, LiteralsApart, MoreRoomChangesNothing, NumbersFillTheWidth, PlacesAscend, StringsFillTheWidth};
+ghost use Rattle.py_spec.specs.Laws.{CharactersFillTheWidth, FullLiterals, LiteralsApart, MoreRoomChangesNothing, NumbersFillTheWidth, PlacesAscend, StringsFillTheWidth};
 
 /// Where a template is read with room for more parts than it has units, more room changes nothing.
 pub fn more_room_changes_nothing()
@@ -22,12 +22,18 @@ pub fn places_ascend()
     ensures { PlacesAscend }
 {}
 
-/// A string that is written has at least as many units as the width.
+/// A string that is written is what the precision keeps of it, with spaces up to the width and no
+/// others: on the left, or with `-` on the right.
 pub fn strings_fill_the_width()
     ensures { StringsFillTheWidth }
 {}
 
-/// So has a number.
+/// So is a character, which is not cut.
+pub fn characters_fill_the_width()
+    ensures { CharactersFillTheWidth }
+{}
+
+/// A number that is written is its sign, prefix, zeros and digits, with such spaces around them.
 pub fn numbers_fill_the_width()
     ensures { NumbersFillTheWidth }
 {}
