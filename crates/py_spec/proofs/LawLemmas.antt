@@ -1,5 +1,5 @@
 -- What the laws of percent templates rest on.
-use Rattle.std.proofs.Common.{◌≡◌, ◌∙◌, ℕ, zero, suc, ◌+◌, ◌≤◌, Bool, true, ◌&&◌, List, [], ◌∷◌, ◌++◌, length, sym, ap, refl, arith, Option, Some, None}
+use Rattle.std.proofs.Common.{◌≡◌, ◌∙◌, ℕ, zero, suc, ◌+◌, Bool, true, ◌&&◌, List, [], ◌∷◌, ◌++◌, length, sym, ap, refl, arith, Option, Some, None}
 use Rattle.std.specs.Prelude.{Ok, Err, MatchOption, ⊤}
 use Rattle.std.proofs.lemmas.Bool.{and_parts}
 use Rattle.std.proofs.lemmas.Bool.Decides.{nat_tests}
@@ -10,7 +10,8 @@ use Rattle.py_spec.specs.declared.percent.parts.CFormatSpec.{CFormatSpec}
 use Rattle.py_spec.specs.Laws.{FullLiterals, LiteralsApart, MoreRoomChangesNothing, all_full, is_full, literals_apart}
 use Rattle.py_spec.specs.Percent.Literals.{literal}
 use Rattle.py_spec.specs.Percent.Reading.{Read, place_of, read_specifier}
-use Rattle.py_spec.specs.Percent.Template.{Turn, Parts, specifier_after, read_turn, turn_parts, read_parts}
+use Rattle.py_spec.specs.Percent.Template.{Turn, Parts, specifier_after, read_turn, turn_parts, read_parts, percent_parts}
+use Rattle.py_spec.proofs.ByteLawLemmas.{of_both, full_bytes, apart_bytes}
 use Rattle.py_spec.proofs.PartLemmas.{literal_full, of_parts}
 use Rattle.py_spec.proofs.LengthLemmas.{turn_shorter}
 
@@ -55,8 +56,11 @@ full_parts (suc k) n (c ∷ cs) =
     then_holds (full_parts k n x) λ ps y q.
     ok (full_joined (turn_parts (place_of n (c ∷ cs)) turn) ps (full_turn (place_of n (c ∷ cs)) turn.0 turn.1) q)
 
+full_text : (cs : List ℕ) (ps : Parts) → percent_parts cs ≡ Ok ps → all_full ps ≡ true
+full_text cs ps e = of_parts (λ qs. all_full qs ≡ true) (read_parts (suc (length cs)) (length cs) cs) ps (full_parts (suc (length cs)) (length cs) cs) e
+
 pub full_literals : FullLiterals
-full_literals cs ps e = of_parts (λ qs. all_full qs ≡ true) (read_parts (suc (length cs)) (length cs) cs) ps (full_parts (suc (length cs)) (length cs) cs) e
+full_literals = of_both all_full full_bytes full_text
 
 -- a turn without a specifier is the last one
 abbrev EndsOrSpec : Turn → List ℕ → Type 0
@@ -97,5 +101,8 @@ apart_parts (suc k) n (c ∷ cs) =
     then_holds (parts_after k n turn.1 x p (apart_parts k n x)) λ ps y q.
     ok (apart_turn (place_of n (c ∷ cs)) turn.0 turn.1 ps q.0 q.1)
 
+apart_text : (cs : List ℕ) (ps : Parts) → percent_parts cs ≡ Ok ps → literals_apart ps ≡ true
+apart_text cs ps e = of_parts (λ qs. literals_apart qs ≡ true) (read_parts (suc (length cs)) (length cs) cs) ps (apart_parts (suc (length cs)) (length cs) cs) e
+
 pub apart : LiteralsApart
-apart cs ps e = of_parts (λ qs. literals_apart qs ≡ true) (read_parts (suc (length cs)) (length cs) cs) ps (apart_parts (suc (length cs)) (length cs) cs) e
+apart = of_both literals_apart apart_bytes apart_text

@@ -1,4 +1,5 @@
 mod AscendLemmas
+mod ByteLawLemmas
 mod BytePartLemmas
 mod FillLemmas
 mod KeyLemmas

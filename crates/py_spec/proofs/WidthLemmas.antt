@@ -1,12 +1,12 @@
 -- What is written is what was to be written, with spaces around it alone.
-use Rattle.std.proofs.Common.{◌≡◌, ◌∙◌, ℕ, ◌+◌, ◌-◌, ◌<◌, ◌≤◌, ◌&&◌, Bool, true, false, not, if◌then◌else◌, List, [], ◌∷◌, ◌++◌, length, sym, ap, subst, refl, arith, append-nil, length-append}
+use Rattle.std.proofs.Common.{◌≡◌, ◌∙◌, ℕ, ◌+◌, ◌-◌, ◌<◌, ◌&&◌, Bool, true, false, not, if◌then◌else◌, List, [], ◌∷◌, ◌++◌, length, sym, ap, subst, refl, arith, append-nil, length-append}
 use Rattle.std.specs.Prelude.{unsigned_abs}
 use Rattle.std.specs.Int.{is_negative}
 use Rattle.py_spec.specs.declared.percent.parts.CConversionFlags.{CConversionFlags}
 use Rattle.py_spec.specs.declared.percent.parts.CFormatSpec.{CFormatSpec}
 use Rattle.py_spec.specs.Laws.{CharactersFillTheWidth, FillsTheWidth, IsNumber, NumbersFillTheWidth, StringsFillTheWidth}
 use Rattle.py_spec.specs.Percent.Flags.{left_adjust, zero_pad}
-use Rattle.py_spec.specs.Percent.Writing.{has, spaces, zeros, width_in, precision_in, short_of, sides, between, filled, most_units, cut, sign_text, prefix_text, digits_of, least_digits, zero_fill, number_after, kind_of}
+use Rattle.py_spec.specs.Percent.Writing.{has, spaces, zeros, precision_in, short_of, sides, between, filled, most_units, cut, sign_text, prefix_text, digits_of, least_digits, zero_fill, number_after, kind_of}
 use Rattle.py_spec.proofs.FillLemmas.{between_length, sides_sum}
 use Rattle.py_spec.proofs.WritingLemmas.{zeros_joined, zeros_length}
 

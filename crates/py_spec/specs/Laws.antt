@@ -4,6 +4,7 @@ use Rattle.std.specs.Int.{is_negative}
 use Rattle.py_spec.specs.declared.percent.parts.CFormatPart.{CFormatPart}
 use Rattle.py_spec.specs.declared.percent.parts.CFormatPart.TheVariants.{Literal, LiteralBytes, Spec}
 use Rattle.py_spec.specs.declared.percent.parts.CFormatSpec.{CFormatSpec}
+use Rattle.py_spec.specs.Percent.ByteParts.{byte_parts}
 use Rattle.py_spec.specs.Percent.Flags.{left_adjust, zero_pad}
 use Rattle.py_spec.specs.Percent.Template.{Parts, read_parts, percent_parts}
 use Rattle.py_spec.specs.Percent.Writing.{has, spaces, zeros, width_in, precision_in, filled, most_units, cut, string_units, sign_text, prefix_text, digits_of, least_digits, kind_of, number_text}
@@ -27,9 +28,14 @@ abbrev pub all_full : Parts → Bool
 all_full [] = true
 all_full (p ∷ ps) = is_full p.1 && all_full ps
 
+-- the parts of each template pass a test, and so do those of each template of bytes
+pub record HoldsOfParts (test : Parts → Bool) : Type 0 where
+  pub of_text : (cs : List ℕ) (ps : Parts) → percent_parts cs ≡ Ok ps → test ps ≡ true
+  pub of_bytes : (bs : List ℕ) (ps : Parts) → byte_parts bs ≡ Ok ps → test ps ≡ true
+
 -- no literal is empty
 abbrev pub FullLiterals : Type 0
-FullLiterals = (cs : List ℕ) (ps : Parts) → percent_parts cs ≡ Ok ps → all_full ps ≡ true
+FullLiterals = HoldsOfParts all_full
 
 abbrev pub begins_literal : Parts → Bool
 begins_literal [] = false
@@ -41,7 +47,7 @@ literals_apart (p ∷ ps) = not (is_literal p.1 && begins_literal ps) && literal
 
 -- no two literals are neighbours
 abbrev pub LiteralsApart : Type 0
-LiteralsApart = (cs : List ℕ) (ps : Parts) → percent_parts cs ≡ Ok ps → literals_apart ps ≡ true
+LiteralsApart = HoldsOfParts literals_apart
 
 abbrev pub all_after : ℕ → Parts → Bool
 all_after place [] = true
@@ -53,7 +59,7 @@ ascending (p ∷ ps) = all_after p.0 ps && ascending ps
 
 -- each part begins after those before it
 abbrev pub PlacesAscend : Type 0
-PlacesAscend = (cs : List ℕ) (ps : Parts) → percent_parts cs ≡ Ok ps → ascending ps ≡ true
+PlacesAscend = HoldsOfParts ascending
 
 -- units made of others: these with spaces after them where the flag `-` is set, and else before
 -- them; as long as the width where the others are not longer, and else the others

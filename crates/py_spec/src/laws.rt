@@ -7,17 +7,17 @@ pub fn more_room_changes_nothing()
     ensures { MoreRoomChangesNothing }
 {}
 
-/// No literal of a template is empty.
+/// No literal of a template, of text or of bytes, is empty.
 pub fn no_literal_is_empty()
     ensures { FullLiterals }
 {}
 
-/// No two literals are neighbours: each is the longest run.
+/// No two literals are neighbours: each is the longest run. So it is in a template of bytes.
 pub fn literals_are_longest_runs()
     ensures { LiteralsApart }
 {}
 
-/// The places of the parts ascend.
+/// The places of the parts ascend, in a template of text and in one of bytes.
 pub fn places_ascend()
     ensures { PlacesAscend }
 {}
