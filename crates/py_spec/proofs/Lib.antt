@@ -11,5 +11,7 @@ mod NumeralLemmas
 mod PartLemmas
 mod ReaderLemmas
 mod RunLemmas
+mod SpellingLemmas
+mod SuffixLemmas
 mod WidthLemmas
 mod WritingLemmas

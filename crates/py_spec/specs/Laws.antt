@@ -4,8 +4,9 @@ use Rattle.std.specs.Int.{is_negative}
 use Rattle.py_spec.specs.declared.percent.parts.CFormatPart.{CFormatPart}
 use Rattle.py_spec.specs.declared.percent.parts.CFormatPart.TheVariants.{Literal, LiteralBytes, Spec}
 use Rattle.py_spec.specs.declared.percent.parts.CFormatSpec.{CFormatSpec}
-use Rattle.py_spec.specs.Percent.ByteParts.{byte_parts}
+use Rattle.py_spec.specs.Percent.ByteParts.{parts_bytes, byte_parts}
 use Rattle.py_spec.specs.Percent.Flags.{left_adjust, zero_pad}
+use Rattle.py_spec.specs.Percent.Spelling.{SpellAll}
 use Rattle.py_spec.specs.Percent.Template.{Parts, read_parts, percent_parts}
 use Rattle.py_spec.specs.Percent.Writing.{has, spaces, zeros, width_in, precision_in, filled, most_units, cut, string_units, sign_text, prefix_text, digits_of, least_digits, kind_of, number_text}
 
@@ -60,6 +61,13 @@ ascending (p ∷ ps) = all_after p.0 ps && ascending ps
 -- each part begins after those before it
 abbrev pub PlacesAscend : Type 0
 PlacesAscend = HoldsOfParts ascending
+
+-- the parts are the template: their units, one after another, are its units; of a template of bytes
+-- these are the parts that become bytes
+pub record PartsSpellTheTemplate : Type 0 where
+  pub of_text : (cs : List ℕ) (ps : Parts) → percent_parts cs ≡ Ok ps → SpellAll (length cs) ps cs
+  pub of_bytes : (bs : List ℕ) (ps : Parts) → byte_parts bs ≡ Ok ps
+    → (qs : Parts) × (ps ≡ parts_bytes qs) × SpellAll (length bs) qs bs
 
 -- units made of others: these with spaces after them where the flag `-` is set, and else before
 -- them; as long as the width where the others are not longer, and else the others

@@ -13,6 +13,7 @@ use Rattle.py_spec.specs.declared.percent.parts.CNumberType.TheVariants.{Decimal
 use Rattle.py_spec.specs.declared.percent.parts.CFormatConversion.TheVariants.{Str}
 use Rattle.py_spec.specs.Percent.Flags.{flag}
 use Rattle.py_spec.specs.Percent.Reading.{typed_spec}
+use Rattle.py_spec.specs.Percent.Spelling.{doubled}
 use Rattle.py_spec.specs.Percent.Template.{percent_parts}
 
 -- `a%%%5d` is the literal `a%` and a specifier at the place 3
@@ -50,3 +51,7 @@ too_wide = refl
 -- `f` is the type of a float
 float_type : percent_parts (codes "%.2f") ≡ Err (NotCarried (Code 102))
 float_type = refl
+
+-- the literal `a%` is spelled `a%%`
+percent_twice : doubled (codes "a%") ≡ codes "a%%"
+percent_twice = refl

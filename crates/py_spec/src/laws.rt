@@ -1,6 +1,6 @@
 //! Laws of percent templates: facts that follow from the definitions.
 
-ghost use Rattle.py_spec.specs.Laws.{CharactersFillTheWidth, FullLiterals, LiteralsApart, MoreRoomChangesNothing, NumbersFillTheWidth, PlacesAscend, StringsFillTheWidth};
+ghost use Rattle.py_spec.specs.Laws.{CharactersFillTheWidth, FullLiterals, LiteralsApart, MoreRoomChangesNothing, NumbersFillTheWidth, PartsSpellTheTemplate, PlacesAscend, StringsFillTheWidth};
 
 /// Where a template is read with room for more parts than it has units, more room changes nothing.
 pub fn more_room_changes_nothing()
@@ -20,6 +20,12 @@ pub fn literals_are_longest_runs()
 /// The places of the parts ascend, in a template of text and in one of bytes.
 pub fn places_ascend()
     ensures { PlacesAscend }
+{}
+
+/// The parts are the template. Each has the units from its place up to the place of the next part,
+/// or up to the end: a literal with each percent sign twice, or a specifier as it is read.
+pub fn parts_spell_the_template()
+    ensures { PartsSpellTheTemplate }
 {}
 
 /// A string that is written is what the precision keeps of it, with spaces up to the width and no
