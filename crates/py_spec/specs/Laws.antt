@@ -67,7 +67,7 @@ PlacesAscend = HoldsOfParts ascending
 pub record PartsSpellTheTemplate : Type 0 where
   pub of_text : (cs : List ℕ) (ps : Parts) → percent_parts cs ≡ Ok ps → SpellAll (length cs) ps cs
   pub of_bytes : (bs : List ℕ) (ps : Parts) → byte_parts bs ≡ Ok ps
-    → (qs : Parts) × (ps ≡ parts_bytes qs) × SpellAll (length bs) qs bs
+      → (qs : Parts) × (ps ≡ parts_bytes qs) × SpellAll (length bs) qs bs
 
 -- units made of others: these with spaces after them where the flag `-` is set, and else before
 -- them; as long as the width where the others are not longer, and else the others
@@ -96,10 +96,10 @@ pub record IsNumber (s : CFormatSpec) (head digits made : List ℕ) : Type 0 whe
   pub spaced : FillsTheWidth s (head ++ (zeros count ++ digits)) made
   pub enough : least_digits (precision_in s.precision) ≤ count + length digits
   pub wide : has zero_pad s.flags ≡ true → has left_adjust s.flags ≡ false
-    → width_in s.min_field_width ≤ length head + count + length digits
+      → width_in s.min_field_width ≤ length head + count + length digits
   pub few : least_digits (precision_in s.precision) - length digits < count
-    → (has zero_pad s.flags ≡ true) × (has left_adjust s.flags ≡ false)
-    × (length head + count + length digits ≡ width_in s.min_field_width)
+      → (has zero_pad s.flags ≡ true) × (has left_adjust s.flags ≡ false)
+      × (length head + count + length digits ≡ width_in s.min_field_width)
 
 -- so does a number, of its sign, prefix, zeros and digits
 abbrev pub NumbersFillTheWidth : Type 0

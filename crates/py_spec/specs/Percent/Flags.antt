@@ -33,7 +33,8 @@ flags_by_sign =
     (35, flag alternate_form) ∷ (48, flag zero_pad) ∷ (45, flag left_adjust)
     ∷ (32, flag blank_sign) ∷ (43, flag sign_char) ∷ []
 
-abbrev pub flags_on : Option CConversionFlags → CConversionFlags → List ℕ → (CConversionFlags → CConversionFlags × List ℕ) → CConversionFlags × List ℕ
+abbrev pub flags_on : Option CConversionFlags → CConversionFlags → List ℕ
+    → (CConversionFlags → CConversionFlags × List ℕ) → CConversionFlags × List ℕ
 flags_on None flags cs next = (flags, cs)
 flags_on (Some f) flags cs next = next (with_flags flags f)
 
