@@ -1,12 +1,14 @@
 -- The places of parts: each turn begins after the one before it.
 use Rattle.std.proofs.Common.{◌≡◌, ◌∙◌, ◌==◌, ℕ, zero, suc, ◌+◌, ◌-◌, ◌<◌, ◌≤◌, Bool, true, false, ◌&&◌, nat_le, if◌then◌else◌, List, [], ◌∷◌, ◌++◌, length, sym, ap, refl, arith, Option, Some, None}
+use Rattle.std.specs.Prelude.{Ok}
 use Rattle.std.proofs.lemmas.Bool.Decides.{nat_tests}
 use Rattle.py_base.proofs.HoldsLemmas.{Holds, ok, then_holds}
 use Rattle.py_spec.specs.declared.percent.parts.CFormatSpec.{CFormatSpec}
 use Rattle.py_spec.specs.Laws.{PlacesAscend, all_after, ascending}
 use Rattle.py_spec.specs.Percent.Literals.{literal, put_first}
 use Rattle.py_spec.specs.Percent.Reading.{place_of}
-use Rattle.py_spec.specs.Percent.Template.{Turn, Parts, specifier_after, read_turn, turn_parts, read_parts}
+use Rattle.py_spec.specs.Percent.Template.{Turn, Parts, specifier_after, read_turn, turn_parts, read_parts, percent_parts}
+use Rattle.py_spec.proofs.ByteLawLemmas.{of_both, ascend_bytes}
 use Rattle.py_spec.proofs.PartLemmas.{of_parts}
 use Rattle.py_spec.proofs.LengthLemmas.{a_specifier}
 
@@ -85,5 +87,8 @@ ascending_parts (suc k) n (c ∷ cs) h =
     then_holds (ascending_parts k n x (omega (arith, h, less))) λ ps y q.
     ok (turn_ascends (place_of n (c ∷ cs)) (place_of n x) turn.0 turn.1 ps (omega (arith, h, less)) (some_place n turn.0 (c ∷ cs) x turn.1 h p) q.1 q.0)
 
+ascend_text : (cs : List ℕ) (ps : Parts) → percent_parts cs ≡ Ok ps → ascending ps ≡ true
+ascend_text cs ps e = (of_parts (λ qs. (ascending qs ≡ true) × (from (place_of (length cs) cs) qs ≡ true)) (read_parts (suc (length cs)) (length cs) cs) ps (ascending_parts (suc (length cs)) (length cs) cs (omega arith)) e).0
+
 pub ascend : PlacesAscend
-ascend cs ps e = (of_parts (λ qs. (ascending qs ≡ true) × (from (place_of (length cs) cs) qs ≡ true)) (read_parts (suc (length cs)) (length cs) cs) ps (ascending_parts (suc (length cs)) (length cs) cs (omega arith)) e).0
+ascend = of_both ascending ascend_bytes ascend_text

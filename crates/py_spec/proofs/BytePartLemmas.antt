@@ -68,3 +68,6 @@ byte_taken old new bytes i c h is small u e s =
 
 pub narrow_taken : (bytes : List ℕ) (i : ℕ) → i < length bytes → get_or bytes i 0 < 256 → Narrow (take i bytes) → Narrow (take (i + 1) bytes)
 narrow_taken bytes i h small n = ap all_bytes (take_more bytes i 0 h) ∙ bytes_joined (take i bytes) (get_or bytes i 0) n (byte_below (get_or bytes i 0) small)
+
+-- how a template of bytes is read
+pub ruleset bytes_parse = (bytes_fault, bytes_read, bytes_narrow)

@@ -7,6 +7,7 @@ use Rattle.std.proofs.lemmas.Str.{IsUtf8-append, IsUtf8-from_ascii, chars-append
 use Rattle.py_text.specs.Text.{all_ascii}
 use Rattle.py_text.proofs.PointLemmas.{is_ascii}
 use Rattle.py_spec.specs.declared.percent.parts.CConversionFlags.{CConversionFlags}
+use Rattle.py_spec.specs.Percent.Flags.{left_adjust}
 use Rattle.py_spec.specs.Percent.Writing.{has, spaces, zeros, sides, between}
 
 -- bytes filled up with copies of one
@@ -17,7 +18,7 @@ run_put old new n len count byte o l e =
 
 -- the spaces on both sides are all
 pub sides_sum : (flags : CConversionFlags) (n : ℕ) → (sides flags n).0 + (sides flags n).1 ≡ n
-sides_sum flags n = by_test (has 4 flags) where
+sides_sum flags n = by_test (has left_adjust flags) where
   by_test : (b : Bool) → (let side : ℕ × ℕ = if b then (0, n) else (n, 0) in side.0 + side.1 ≡ n)
   by_test true = omega arith
   by_test false = omega arith

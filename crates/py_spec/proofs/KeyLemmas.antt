@@ -34,3 +34,6 @@ key_ends whole place level cs key e w = w ∙ ap (λ l. joined key (key_in place
 
 pub few_open : (level c now : ℕ) → open_after level c ≡ Some now → now ≤ level + 1
 few_open level c now is = grind (arith, nat_tests)
+
+-- the turns of the loop that reads a key
+pub ruleset key_steps = (key_none, key_goes_on, key_closes, key_ends, few_open)

@@ -1,19 +1,17 @@
 -- What the laws of percent templates rest on.
-use Rattle.std.proofs.Common.{◌≡◌, ◌∙◌, ℕ, zero, suc, ◌+◌, ◌≤◌, Bool, true, ◌&&◌, List, [], ◌∷◌, ◌++◌, length, sym, ap, refl, arith, Option, Some, None}
-use Rattle.std.specs.Prelude.{Ok, Err, MatchOption, ⊤, unsigned_abs}
-use Rattle.std.specs.Int.{is_negative}
+use Rattle.std.proofs.Common.{◌≡◌, ◌∙◌, ℕ, zero, suc, ◌+◌, Bool, true, ◌&&◌, List, [], ◌∷◌, ◌++◌, length, sym, ap, refl, arith, Option, Some, None}
+use Rattle.std.specs.Prelude.{Ok, Err, MatchOption, ⊤}
 use Rattle.std.proofs.lemmas.Bool.{and_parts}
 use Rattle.std.proofs.lemmas.Bool.Decides.{nat_tests}
 use Rattle.py_base.specs.Reading.{◌and_then◌}
 use Rattle.py_base.proofs.HoldsLemmas.{Holds, ok, bad, then_holds}
 use Rattle.py_spec.specs.declared.percent.parts.CFormatPart.TheVariants.{Literal, Spec}
 use Rattle.py_spec.specs.declared.percent.parts.CFormatSpec.{CFormatSpec}
-use Rattle.py_spec.specs.Laws.{FullLiterals, LiteralsApart, MoreRoomChangesNothing, NumbersFillTheWidth, StringsFillTheWidth, all_full, is_full, literals_apart}
+use Rattle.py_spec.specs.Laws.{FullLiterals, LiteralsApart, MoreRoomChangesNothing, all_full, is_full, literals_apart}
 use Rattle.py_spec.specs.Percent.Literals.{literal}
 use Rattle.py_spec.specs.Percent.Reading.{Read, place_of, read_specifier}
-use Rattle.py_spec.specs.Percent.Template.{Turn, Parts, specifier_after, read_turn, turn_parts, read_parts}
-use Rattle.py_spec.specs.Percent.Writing.{width_in, precision_in, short_of, sides, filled, cut, most_units, sign_text, prefix_text, digits_of, least_digits, at_least, zero_filled, kind_of}
-use Rattle.py_spec.proofs.FillLemmas.{between_length, sides_sum}
+use Rattle.py_spec.specs.Percent.Template.{Turn, Parts, specifier_after, read_turn, turn_parts, read_parts, percent_parts}
+use Rattle.py_spec.proofs.ByteLawLemmas.{of_both, full_bytes, apart_bytes}
 use Rattle.py_spec.proofs.PartLemmas.{literal_full, of_parts}
 use Rattle.py_spec.proofs.LengthLemmas.{turn_shorter}
 
@@ -58,8 +56,11 @@ full_parts (suc k) n (c ∷ cs) =
     then_holds (full_parts k n x) λ ps y q.
     ok (full_joined (turn_parts (place_of n (c ∷ cs)) turn) ps (full_turn (place_of n (c ∷ cs)) turn.0 turn.1) q)
 
+full_text : (cs : List ℕ) (ps : Parts) → percent_parts cs ≡ Ok ps → all_full ps ≡ true
+full_text cs ps e = of_parts (λ qs. all_full qs ≡ true) (read_parts (suc (length cs)) (length cs) cs) ps (full_parts (suc (length cs)) (length cs) cs) e
+
 pub full_literals : FullLiterals
-full_literals cs ps e = of_parts (λ qs. all_full qs ≡ true) (read_parts (suc (length cs)) (length cs) cs) ps (full_parts (suc (length cs)) (length cs) cs) e
+full_literals = of_both all_full full_bytes full_text
 
 -- a turn without a specifier is the last one
 abbrev EndsOrSpec : Turn → List ℕ → Type 0
@@ -100,18 +101,8 @@ apart_parts (suc k) n (c ∷ cs) =
     then_holds (parts_after k n turn.1 x p (apart_parts k n x)) λ ps y q.
     ok (apart_turn (place_of n (c ∷ cs)) turn.0 turn.1 ps q.0 q.1)
 
+apart_text : (cs : List ℕ) (ps : Parts) → percent_parts cs ≡ Ok ps → literals_apart ps ≡ true
+apart_text cs ps e = of_parts (λ qs. literals_apart qs ≡ true) (read_parts (suc (length cs)) (length cs) cs) ps (apart_parts (suc (length cs)) (length cs) cs) e
+
 pub apart : LiteralsApart
-apart cs ps e = of_parts (λ qs. literals_apart qs ≡ true) (read_parts (suc (length cs)) (length cs) cs) ps (apart_parts (suc (length cs)) (length cs) cs) e
-
--- what is filled is as long as the width
-filled_long : (s : CFormatSpec) (units : List ℕ) → width_in s.min_field_width ≤ length (filled s units)
-filled_long s units = omega (arith, between_length (sides s.flags (short_of s (length units))) units, sides_sum s.flags (short_of s (length units)))
-
-pub strings_long : StringsFillTheWidth
-strings_long s units = filled_long s (cut (most_units s.format_type s.precision) units)
-
-pub numbers_long : NumbersFillTheWidth
-numbers_long s z =
-    let kind = kind_of s.format_type in
-    let digits = at_least (least_digits (precision_in s.precision)) (digits_of kind (unsigned_abs z)) in
-    filled_long s (zero_filled s (sign_text s.flags (is_negative z) ++ prefix_text s.flags kind) digits)
+apart = of_both literals_apart apart_bytes apart_text

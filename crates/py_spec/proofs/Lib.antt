@@ -1,4 +1,5 @@
 mod AscendLemmas
+mod ByteLawLemmas
 mod BytePartLemmas
 mod FillLemmas
 mod KeyLemmas
@@ -10,4 +11,7 @@ mod NumeralLemmas
 mod PartLemmas
 mod ReaderLemmas
 mod RunLemmas
+mod SpellingLemmas
+mod SuffixLemmas
+mod WidthLemmas
 mod WritingLemmas

@@ -117,3 +117,6 @@ digit_last at base left g upper n room new p h small is e w =
     let same : digit_glyph upper (left % base) ≡ g = ap (digit_glyph upper) (mod-eq_of_lt small) ∙ sym is in
     one_written at room new g e p h
     ∙ sym (w ∙ onto_last at base upper left (drop at room) p (div-eq_of_lt small) ∙ ap (λ (c : ℕ). c ∷ drop at room) same)
+
+-- the turns of the loop that writes digits
+pub ruleset digits_put = (fewer_digits, some_room, wide_room, digit_put, digit_last)

@@ -10,6 +10,7 @@ use Rattle.py_spec.specs.declared.percent.parts.CConversionFlags.{CConversionFla
 use Rattle.py_spec.specs.declared.percent.parts.CFormatSpec.{CFormatSpec}
 use Rattle.py_spec.specs.declared.percent.parts.CNumberType.{CNumberType}
 use Rattle.py_spec.specs.declared.percent.parts.CNumberType.TheVariants.{Decimal, Octal, Hex, HexUpper}
+use Rattle.py_spec.specs.Percent.Flags.{alternate_form, blank_sign, sign_char}
 use Rattle.py_spec.specs.Percent.Writing.{has, spaces, zeros, width_in, precision_in, short_of, sides, between, filled, cut, sign_text, prefix_of, prefix_text, digits_of, least_digits, at_least, zero_fill, zero_filled, number_after, kind_of, number_text}
 use Rattle.py_spec.proofs.FillLemmas.{sides_sum, spaces_ascii, zeros_ascii, between_chars, between_length}
 use Rattle.py_spec.proofs.NumeralLemmas.{digits_ascii}
@@ -36,10 +37,10 @@ pub cut_all : (n : ℕ) (units : List ℕ) → length units ≤ n → units ≡ 
 cut_all n units h = sym (take_all n units h)
 
 -- zeros up to the precision, after those up to the width
-zeros_joined : (fill least : ℕ) (ds : List ℕ) → zeros (fill + least) ++ ds ≡ zeros fill ++ (zeros least ++ ds)
+pub zeros_joined : (fill least : ℕ) (ds : List ℕ) → zeros (fill + least) ++ ds ≡ zeros fill ++ (zeros least ++ ds)
 zeros_joined fill least ds = ap (λ (z : List ℕ). z ++ ds) (sym (replicate-append-replicate fill least 48)) ∙ append_assoc (zeros fill) (zeros least) ds
 
-zeros_length : (n : ℕ) (ds : List ℕ) → length (zeros n ++ ds) ≡ n + length ds
+pub zeros_length : (n : ℕ) (ds : List ℕ) → length (zeros n ++ ds) ≡ n + length ds
 zeros_length n ds = omega (arith, length-append (zeros n) ds, length-replicate {A = ℕ} n 48)
 
 head_length : (sign prefix ds : List ℕ) (n : ℕ) → length ((sign ++ prefix) ++ (zeros n ++ ds)) ≡ length sign + length prefix + n + length ds
@@ -71,14 +72,14 @@ number_written s sign prefix ds m1 m2 m3 m4 width p least one two three short fi
 -- what is written of a number is ASCII
 sign_ascii : (flags : CConversionFlags) (negative : Bool) → all_ascii (sign_text flags negative) ≡ true
 sign_ascii flags true = refl
-sign_ascii flags false = by_tests (has 16 flags) (has 8 flags) where
+sign_ascii flags false = by_tests (has sign_char flags) (has blank_sign flags) where
   by_tests : (a b : Bool) → all_ascii (if a then 43 ∷ [] else if b then 32 ∷ [] else []) ≡ true
   by_tests true b = refl
   by_tests false true = refl
   by_tests false false = refl
 
 prefix_ascii : (flags : CConversionFlags) (kind : CNumberType) → all_ascii (prefix_text flags kind) ≡ true
-prefix_ascii flags kind = by_test (has 1 flags) kind where
+prefix_ascii flags kind = by_test (has alternate_form flags) kind where
   by_test : (b : Bool) (kind : CNumberType) → all_ascii (if b then prefix_of kind else []) ≡ true
   by_test false kind = refl
   by_test true Decimal = refl

@@ -13,22 +13,30 @@ use Rattle.py_spec.specs.declared.percent.parts.CNumberType.TheVariants.{Decimal
 use Rattle.py_spec.specs.declared.percent.parts.CFormatConversion.TheVariants.{Str}
 use Rattle.py_spec.specs.Percent.Flags.{flag}
 use Rattle.py_spec.specs.Percent.Reading.{typed_spec}
+use Rattle.py_spec.specs.Percent.Spelling.{doubled}
 use Rattle.py_spec.specs.Percent.Template.{percent_parts}
 
 -- `a%%%5d` is the literal `a%` and a specifier at the place 3
-two_parts : percent_parts (codes "a%%%5d") ≡ Ok ((0, Literal (codes "a%")) ∷ (3, Spec (typed_spec None (flag 0) (Some (Amount 5)) None (Number Decimal, 100))) ∷ [])
+two_parts : percent_parts (codes "a%%%5d")
+    ≡ Ok ((0, Literal (codes "a%"))
+    ∷ (3, Spec (typed_spec None (flag 0) (Some (Amount 5)) None (Number Decimal, 100))) ∷ [])
 two_parts = refl
 
 -- the key of `%(a(b))d` is `a(b)`
-nested_key : percent_parts (codes "%(a(b))d") ≡ Ok ((0, Spec (typed_spec (Some (Text (codes "a(b)"))) (flag 0) None None (Number Decimal, 100))) ∷ [])
+nested_key : percent_parts (codes "%(a(b))d") ≡ Ok
+    ((0, Spec (typed_spec (Some (Text (codes "a(b)"))) (flag 0) None None (Number Decimal, 100)))
+    ∷ [])
 nested_key = refl
 
 -- `%#08lx` has the flags `#` and `0`, which are 1 and 2, and the width 8
-flags_and_width : percent_parts (codes "%#08lx") ≡ Ok ((0, Spec (typed_spec None (flag 3) (Some (Amount 8)) None (Number Hex, 120))) ∷ [])
+flags_and_width : percent_parts (codes "%#08lx")
+    ≡ Ok ((0, Spec (typed_spec None (flag 3) (Some (Amount 8)) None (Number Hex, 120))) ∷ [])
 flags_and_width = refl
 
 -- `%*.s` takes its width from the values, and its precision is nothing
-star_and_dot : percent_parts (codes "%*.s") ≡ Ok ((0, Spec (typed_spec None (flag 0) (Some FromValuesTuple) (Some Dot) (String Str, 115))) ∷ [])
+star_and_dot : percent_parts (codes "%*.s")
+    ≡ Ok ((0, Spec (typed_spec None (flag 0) (Some FromValuesTuple) (Some Dot) (String Str, 115)))
+    ∷ [])
 star_and_dot = refl
 
 -- `%5` ends inside a specifier
@@ -50,3 +58,7 @@ too_wide = refl
 -- `f` is the type of a float
 float_type : percent_parts (codes "%.2f") ≡ Err (NotCarried (Code 102))
 float_type = refl
+
+-- the literal `a%` is spelled `a%%`
+percent_twice : doubled (codes "a%") ≡ codes "a%%"
+percent_twice = refl

@@ -11,11 +11,30 @@ flag b = record { 0 = b }
 abbrev pub with_flags : CConversionFlags → CConversionFlags → CConversionFlags
 with_flags a b = flag (bit_or a.0 b.0)
 
--- `#`, `0`, `-`, the space and `+`
-abbrev pub flags_by_sign : List (ℕ × CConversionFlags)
-flags_by_sign = (35, flag 1) ∷ (48, flag 2) ∷ (45, flag 4) ∷ (32, flag 8) ∷ (43, flag 16) ∷ []
+-- the bits of `#`, `0`, `-`, the space and `+`
+abbrev pub alternate_form : ℕ
+alternate_form = 1
 
-abbrev pub flags_on : Option CConversionFlags → CConversionFlags → List ℕ → (CConversionFlags → CConversionFlags × List ℕ) → CConversionFlags × List ℕ
+abbrev pub zero_pad : ℕ
+zero_pad = 2
+
+abbrev pub left_adjust : ℕ
+left_adjust = 4
+
+abbrev pub blank_sign : ℕ
+blank_sign = 8
+
+abbrev pub sign_char : ℕ
+sign_char = 16
+
+-- the flag of each sign
+abbrev pub flags_by_sign : List (ℕ × CConversionFlags)
+flags_by_sign =
+    (35, flag alternate_form) ∷ (48, flag zero_pad) ∷ (45, flag left_adjust)
+    ∷ (32, flag blank_sign) ∷ (43, flag sign_char) ∷ []
+
+abbrev pub flags_on : Option CConversionFlags → CConversionFlags → List ℕ
+    → (CConversionFlags → CConversionFlags × List ℕ) → CConversionFlags × List ℕ
 flags_on None flags cs next = (flags, cs)
 flags_on (Some f) flags cs next = next (with_flags flags f)
 

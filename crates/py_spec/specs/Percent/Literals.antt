@@ -16,7 +16,8 @@ after_plain cs = skip_while is_plain cs
 abbrev pub put_first : ℕ → List ℕ × List ℕ → List ℕ × List ℕ
 put_first c r = (c ∷ r.0, r.1)
 
--- the longest literal at the front, in which `%%` is a percent sign, and what is after it: nothing, or a specifier
+-- the longest literal at the beginning, in which `%%` is a percent sign, and what is after it:
+-- nothing, or a specifier
 abbrev pub literal : List ℕ → List ℕ × List ℕ
 literal [] = ([], [])
 literal (c ∷ []) = if c == 37 then ([], c ∷ []) else (c ∷ [], [])

@@ -80,7 +80,9 @@ abbrev pub most : ℕ
 most = 2147483647
 
 abbrev pub amount_in : ℕ → ℕ × List ℕ → Read (Option CFormatQuantity)
-amount_in place d = if nat_lt most d.0 then Err (PercentParse WidthTooBig place) else Ok (Some (Amount d.0), d.1)
+amount_in place d =
+    if nat_lt most d.0 then Err (PercentParse WidthTooBig place)
+    else Ok (Some (Amount d.0), d.1)
 
 abbrev pub read_amount : ℕ → List ℕ → Read (Option CFormatQuantity)
 read_amount n cs = amount_in (place_of n cs) (read_digits 0 cs)
@@ -113,7 +115,8 @@ abbrev pub types : List (ℕ × CFormatType)
 types =
     (100, Number Decimal) ∷ (105, Number Decimal) ∷ (117, Number Decimal)
     ∷ (111, Number Octal) ∷ (120, Number Hex) ∷ (88, Number HexUpper)
-    ∷ (99, Character) ∷ (115, String Str) ∷ (114, String Repr) ∷ (97, String Ascii) ∷ (98, String Bytes) ∷ []
+    ∷ (99, Character)
+    ∷ (115, String Str) ∷ (114, String Repr) ∷ (97, String Ascii) ∷ (98, String Bytes) ∷ []
 
 -- the types of floats, `e E f F g G`
 abbrev pub is_float : ℕ → Bool
@@ -130,7 +133,8 @@ abbrev pub read_type : ℕ → List ℕ → Read (CFormatType × ℕ)
 read_type n [] = Err (PercentParse IncompleteFormat n)
 read_type n (c ∷ cs) = typed (find types c) (place_of n (c ∷ cs)) c cs
 
-abbrev pub typed_spec : Option CFormatKey → CConversionFlags → Option CFormatQuantity → Option CFormatPrecision → CFormatType × ℕ → CFormatSpec
+abbrev pub typed_spec : Option CFormatKey → CConversionFlags → Option CFormatQuantity
+    → Option CFormatPrecision → CFormatType × ℕ → CFormatSpec
 typed_spec key flags width precision type = record {
   mapping_key = key;
   flags = flags;
@@ -153,4 +157,5 @@ read_specifier n cs =
 -- a number that the next digits spell, or none where it is past the greatest
 abbrev pub DigitsGive : List ℕ → Option ℕ → List ℕ → Type 0
 DigitsGive cs result rest =
-    MatchOption result (most < (read_digits 0 cs).0) (λ n. (read_digits 0 cs ≡ (n, rest)) × (n ≤ most))
+    MatchOption result (most < (read_digits 0 cs).0)
+    (λ n. (read_digits 0 cs ≡ (n, rest)) × (n ≤ most))

@@ -16,7 +16,8 @@ is_bare (Literal text) = false
 is_bare (LiteralBytes bytes) = false
 
 abbrev pub checked : ℕ → ℕ → Option (ℕ × Bool)
-checked keyed bare = if nat_lt 0 keyed && nat_lt 0 bare then None else Some (keyed + bare, nat_lt 0 keyed)
+checked keyed bare =
+    if nat_lt 0 keyed && nat_lt 0 bare then None else Some (keyed + bare, nat_lt 0 keyed)
 
 -- how many specifiers there are, and whether they have keys; none where some have and some have not
 abbrev pub specifiers_of : Parts → Option (ℕ × Bool)

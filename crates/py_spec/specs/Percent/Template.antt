@@ -34,7 +34,8 @@ spec_part (Some s) = (s.0, Spec s.1) ∷ []
 abbrev pub turn_parts : ℕ → Turn → Parts
 turn_parts place turn = literal_part place turn.0 ++ spec_part turn.1
 
--- the parts of a rest of a template of n units; the first number counts down, and is no limit where it is past the length of the rest
+-- the parts of a rest of a template of n units; the first number counts down, and is no limit where
+-- it is past the length of the rest
 abbrev pub read_parts : ℕ → ℕ → List ℕ → Read Parts
 read_parts zero n cs = Ok ([], cs)
 read_parts (suc k) n [] = Ok ([], [])

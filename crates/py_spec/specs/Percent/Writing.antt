@@ -13,8 +13,9 @@ use Rattle.py_spec.specs.declared.percent.parts.CFormatType.{CFormatType}
 use Rattle.py_spec.specs.declared.percent.parts.CFormatType.TheVariants.{Number, Character, String}
 use Rattle.py_spec.specs.declared.percent.parts.CNumberType.{CNumberType}
 use Rattle.py_spec.specs.declared.percent.parts.CNumberType.TheVariants.{Decimal, Octal, Hex, HexUpper}
+use Rattle.py_spec.specs.Percent.Flags.{alternate_form, zero_pad, left_adjust, blank_sign, sign_char}
 
--- whether a flag is set: `#` is 1, `0` is 2, `-` is 4, the space is 8 and `+` is 16
+-- whether the flag of a bit is set
 abbrev pub has : ℕ → CConversionFlags → Bool
 has bit flags = bit_and flags.0 bit == bit
 
@@ -44,7 +45,7 @@ short_of s n = width_in s.min_field_width - n
 -- so many spaces, as those on the left and those on the right: all on the left, or with `-` on the
 -- right
 abbrev pub sides : CConversionFlags → ℕ → ℕ × ℕ
-sides flags n = if has 4 flags then (0, n) else (n, 0)
+sides flags n = if has left_adjust flags then (0, n) else (n, 0)
 
 abbrev pub between : ℕ × ℕ → List ℕ → List ℕ
 between side units = spaces side.0 ++ (units ++ spaces side.1)
@@ -71,8 +72,8 @@ string_units s units = filled s (cut (most_units s.format_type s.precision) unit
 abbrev pub sign_text : CConversionFlags → Bool → List ℕ
 sign_text flags negative =
     if negative then codes "-"
-    else if has 16 flags then codes "+"
-    else if has 8 flags then codes " "
+    else if has sign_char flags then codes "+"
+    else if has blank_sign flags then codes " "
     else []
 
 abbrev pub prefix_of : CNumberType → List ℕ
@@ -83,7 +84,7 @@ prefix_of HexUpper = codes "0X"
 
 -- the prefix, with `#`
 abbrev pub prefix_text : CConversionFlags → CNumberType → List ℕ
-prefix_text flags kind = if has 1 flags then prefix_of kind else []
+prefix_text flags kind = if has alternate_form flags then prefix_of kind else []
 
 abbrev pub digits_of : CNumberType → ℕ → List ℕ
 digits_of Decimal n = digits 10 false n
@@ -102,7 +103,7 @@ at_least n ds = zeros (n - length ds) ++ ds
 
 -- how many of the units that a number is short of the width are zeros: all with `0` and without `-`
 abbrev pub zero_fill : CConversionFlags → ℕ → ℕ
-zero_fill flags n = if has 2 flags && not (has 4 flags) then n else 0
+zero_fill flags n = if has zero_pad flags && not (has left_adjust flags) then n else 0
 
 -- digits after their sign and prefix, with the zeros of the width between
 abbrev pub zero_filled : CFormatSpec → List ℕ → List ℕ → List ℕ

@@ -113,7 +113,7 @@ impl CFormatBytes {
     /// # Errors
     ///
     /// `PercentParse` or `NotCarried` for the first fault from the left, and `NoMemory`.
-    #[tactic(auto, using(crate::proofs::BytePartLemmas::bytes_fault, crate::proofs::BytePartLemmas::bytes_read, crate::proofs::BytePartLemmas::bytes_narrow,))]
+    #[tactic(auto, using(crate::proofs::BytePartLemmas::bytes_parse))]
     pub fn parse_from_bytes(alloc: Global, bytes: &[u8]) -> PyResult<CFormatBytes>
         ensures { Meets (spec.byte_parts bytes.now) result }
     {

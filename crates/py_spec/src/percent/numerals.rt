@@ -25,7 +25,7 @@ fn glyph(digit: u8, upper: bool) -> u8
 }
 
 // Writes the digits of a number so that they end with the room, and returns where they begin.
-#[tactic(auto, using(crate::proofs::NumeralLemmas::fewer_digits, crate::proofs::NumeralLemmas::some_room, crate::proofs::NumeralLemmas::wide_room, crate::proofs::NumeralLemmas::digit_put, crate::proofs::NumeralLemmas::digit_last,))]
+#[tactic(auto, using(crate::proofs::NumeralLemmas::digits_put))]
 fn put_digits(room: &mut [u8; ROOM], n: u128, base: u128, upper: bool) -> usize
     requires { (8 ≤ base) × (base ≤ 16) }
     ensures within { result ≤ 64 }

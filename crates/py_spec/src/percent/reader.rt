@@ -1,4 +1,4 @@
-//! A percent template that is read from its front, a character at a time, or up to the next `%`.
+//! A percent template, read from its beginning, a character at a time, or up to the next `%`.
 
 ghost use Rattle.std.specs.Prelude.{◌≡◌, ◌∷◌, ◌++◌, ◌&&◌, [], chars, take, drop, length, IsCharBoundary, MatchOption, OnOk, IsOkUnless, if◌then◌else◌};
 ghost use Rattle.py_base.specs.Reading.{is_next};

@@ -90,7 +90,7 @@ impl<'t> Reader<'t> {
     }
 
     // The key after its parenthesis, up to the one that closes it.
-    #[tactic(auto, using(crate::proofs::KeyLemmas::key_none, crate::proofs::KeyLemmas::key_goes_on, crate::proofs::KeyLemmas::key_closes, crate::proofs::KeyLemmas::key_ends, crate::proofs::KeyLemmas::few_open,))]
+    #[tactic(auto, using(crate::proofs::KeyLemmas::key_steps))]
     fn key_text(&mut self, alloc: Global, place: usize) -> PyResult<PyStr>
         ensures { Meets (spec.key_text place self.old) (with_rest result self.new) }
     {

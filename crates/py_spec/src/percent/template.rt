@@ -33,7 +33,7 @@ impl Model for CFormatString {
 type Turn = (PyStr, Option<(usize, CFormatSpec)>);
 
 impl<'t> Reader<'t> {
-    // The longest literal at the front.
+    // The longest literal at the beginning.
     fn literal(&mut self, alloc: Global) -> PyResult<PyStr>
         ensures ok { IfOk result (λ text. literal self.old ≡ (text, self.new)) }
         ensures err { IsOkUnless result PyError.NoMemory }

@@ -1,5 +1,5 @@
-use Rattle.py_spec.proofs.LawLemmas.{numbers_long}
+use Rattle.py_spec.proofs.WidthLemmas.{numbers_filled}
 use Rattle.py_spec.proofs.laws.numbers_fill_the_width.Goals as goal
 
 pub returns : goal.returns
-returns c = numbers_long
+returns c = numbers_filled
