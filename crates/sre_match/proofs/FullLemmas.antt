@@ -8,7 +8,7 @@ use Rattle.sre_match.specs.Repeats.{is_past, in_turn, optional, repeat_paths}
 use Rattle.sre_match.specs.Paths.{attempt, back_reference, node_paths, paths, all_paths}
 use Rattle.sre_match.proofs.AfterLemmas.{IsFull, IsTotal, after_full, append_full, append_full_right}
 
-cut_full : (xs : List Attempt) → IsFull xs → IsFull (cut xs)
+pub cut_full : (xs : List Attempt) → IsFull xs → IsFull (cut xs)
 cut_full [] h = h
 cut_full (failed c ∷ xs) h = tt
 cut_full (passed c e m ∷ xs) h = tt

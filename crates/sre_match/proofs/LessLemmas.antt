@@ -59,6 +59,13 @@ gives_more Fail a s r old new less xs h k = λ ok. record { same = (k ok).same; 
 gives_more Done a s r old new less xs h k = ((λ ok. record { same = (k.0 ok).same; cost = omega (arith, h, (k.0 ok).cost) }), k.1)
 gives_more Full a s r old new less xs h k = λ ok. omega (arith, h, k ok)
 
+-- one more was spent before and after
+pub gives_up_one : (t : Turn) (a : Current) (s : List ℕ) (r : Trail) (old new : ℕ) (xs : List Attempt) → Gives t a s r old new xs → Gives t a s r (old + 1) (new + 1) xs
+gives_up_one Go a s r old new xs k = λ ok. record { same = (k ok).same; cost = omega (arith, (k ok).cost) }
+gives_up_one Fail a s r old new xs k = λ ok. record { same = (k ok).same; cost = omega (arith, (k ok).cost) }
+gives_up_one Done a s r old new xs k = ((λ ok. record { same = (k.0 ok).same; cost = omega (arith, (k.0 ok).cost) }), k.1)
+gives_up_one Full a s r old new xs k = λ ok. omega (arith, k ok)
+
 -- no memory, and nothing was spent
 pub free : (ok : ℕ → Bool) (n : ℕ) (xs : List Attempt) → n ≤ n + cost_of ok xs
 free ok n xs = omega arith

@@ -5,7 +5,7 @@ use Rattle.std.proofs.lemmas.Bool.{false≢true, eq-eqb, ne_eqb}
 use Rattle.sre_code.specs.PlainTree.{PlainNode, PlainTree, fail, any, any_all, lit, not_lit, one_of, at, group, ref, exists, exists_else, branch, repeat, atomic, look, nothing, ◌then◌}
 use Rattle.sre_code.specs.TreeView.{node_of, trees_of}
 use Rattle.sre_match.specs.declared.matcher.first_unit.FirstUnit.{FirstUnit}
-use Rattle.sre_match.specs.declared.matcher.first_unit.FirstUnit.TheVariants.{Single, Alternatives}
+use Rattle.sre_match.specs.declared.matcher.first_unit.FirstUnit.TheVariants.{Single, Alternatives, Repeated}
 use Rattle.sre_match.specs.Anchors.{is_met}
 use Rattle.sre_match.specs.Attempts.{Marks}
 use Rattle.sre_match.specs.Branches.{begins_single, is_out, left_of}
@@ -69,6 +69,10 @@ alternatives_read_first (t ∷ u ∷ ts) f n h w =
 
 pub tree_reads_first_unit : (l : FirstUnit) → Begins l → reads_first (first_unit_tree l) 0 (meets_first l)
 tree_reads_first_unit (Single n more) h = node_single (node_of n.now) (meets_first (Single n more)) h (λ c e. e)
+tree_reads_first_unit (Repeated r more) h =
+    let f : ℕ → Bool = meets_first (Repeated r more) in
+    let P : PlainTree → Type 0 = λ t. reads_first t 0 f in
+    (h.some, subst P (sym h.only) (node_single (node_of r.node.now) f h.single (λ c e. e)))
 tree_reads_first_unit (Alternatives ts more) h = alternatives_read_first ts.now (meets_first (Alternatives ts more)) h.1 h.0 (λ c e. e)
 
 abbrev first_of : PlainTree → List PlainTree → PlainTree

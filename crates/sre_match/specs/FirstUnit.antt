@@ -6,7 +6,8 @@ use Rattle.sre_match.specs.Branches.{begins_single, left_of}
 use Rattle.sre_match.specs.Matches.{Allowed, next_span, next_reads}
 use Rattle.sre_match.specs.Singles.{is_single, meets}
 use Rattle.sre_match.specs.declared.matcher.first_unit.FirstUnit.{FirstUnit}
-use Rattle.sre_match.specs.declared.matcher.first_unit.FirstUnit.TheVariants.{Single, Alternatives}
+use Rattle.sre_match.specs.declared.matcher.first_unit.FirstUnit.TheVariants.{Single, Alternatives, Repeated}
+use Rattle.sre_match.specs.declared.matcher.first_unit.UnitRepeat.{UnitRepeat}
 
 -- each unit that meets the node passes the test
 abbrev pub MeetsOnly : PlainNode → (ℕ → Bool) → Type 0
@@ -52,20 +53,33 @@ abbrev pub any_left : List PlainTree → Bool
 any_left [] = false
 any_left (t ∷ ts) = true
 
+-- the node that is the repeat
+abbrev pub repeat_node : UnitRepeat → PlainNode
+repeat_node r = repeat r.kind r.one_wide r.least r.greatest r.body.now
+
+-- it is tried at least once, and its body is one unit
+pub record Repeats (r : UnitRepeat) : Type 0 where
+  pub some : 1 ≤ r.least
+  pub single : is_single (node_of r.node.now) ≡ true
+  pub only : r.body.now ≡ node_of r.node.now then nothing
+
 -- the tree that begins so
 abbrev pub first_unit_tree : FirstUnit → PlainTree
 first_unit_tree (Single n more) = node_of n.now then tree_of more.now
 first_unit_tree (Alternatives ts more) = branch (trees_of ts.now) then tree_of more.now
+first_unit_tree (Repeated r more) = repeat_node r then tree_of more.now
 
--- its first node is one unit, or each of its first alternatives begins with one
+-- its first node is one unit or a repeat of one, or each of its first alternatives begins with one
 abbrev pub Begins : FirstUnit → Type 0
 Begins (Single n more) = is_single (node_of n.now) ≡ true
 Begins (Alternatives ts more) = (all_single ts.now ≡ true) × (ts.now ≢ [])
+Begins (Repeated r more) = Repeats r
 
 -- whether a unit may be its first one
 abbrev pub meets_first : FirstUnit → ℕ → Bool
 meets_first (Single n more) c = meets (node_of n.now) c
 meets_first (Alternatives ts more) c = any_left (left_of ts.now (Some c))
+meets_first (Repeated r more) c = meets (node_of r.node.now) c
 
 -- which ends are allowed at p, where the search began at q
 abbrev pub allowed_from : ℕ → ℕ → Allowed → Allowed

@@ -9,12 +9,24 @@ ghost use Rattle.sre_code.specs.PlainTree.{PlainTree};
 ghost use Rattle.sre_code.specs.TreeView.{tree_of};
 
 use crate::matcher::branches::{begins_single, left_of};
-use crate::matcher::singles::{is_single, meets};
+use crate::matcher::singles::{is_single, meets, only_single};
 use crate::matcher::subject::{Subject, unit_at};
 use crate::view::{StrDrive, StringCursor};
 use py_base::Steps;
-use sre_code::{Node, Tree};
+use sre_code::{Node, RepeatKind, Tree};
 use std::sync::ledger::Ledger;
+
+/// A repeat of one unit: its kind, whether its code says so, the least and the greatest number, its
+/// body, and the node that is the body.
+#[derive(Clone, Copy)]
+pub struct UnitRepeat<'t> {
+    pub kind: RepeatKind,
+    pub one_wide: bool,
+    pub least: u32,
+    pub greatest: u32,
+    pub body: &'t Tree,
+    pub node: &'t Node,
+}
 
 /// How a tree begins, where each way through it first reads the unit here, and what comes then.
 #[derive(Clone, Copy)]
@@ -23,6 +35,8 @@ pub enum FirstUnit<'t> {
     Single(&'t Node, &'t [Node]),
     /// With alternatives that each begin with one unit.
     Alternatives(&'t [Tree], &'t [Node]),
+    /// With a repeat of one unit, at least once.
+    Repeated(UnitRepeat<'t>, &'t [Node]),
 }
 
 // Whether each alternative begins with one unit.
@@ -53,6 +67,21 @@ pub fn first_unit_of<'t>(nodes: &'t [Node]) -> Option<FirstUnit<'t>>
             }
             match node {
                 Node::Branch(trees) => first_unit_of_branch(trees.trees(), more),
+                Node::Repeat(kind, one_wide, least, greatest, body) => {
+                    if *least == 0 {
+                        return None;
+                    }
+                    let node = only_single(body)?;
+                    let repeat = UnitRepeat {
+                        kind: *kind,
+                        one_wide: *one_wide,
+                        least: *least,
+                        greatest: *greatest,
+                        body,
+                        node,
+                    };
+                    Some(FirstUnit::Repeated(repeat, more))
+                }
                 _ => None,
             }
         }
@@ -80,6 +109,7 @@ pub fn meets_first(first_unit: &FirstUnit<'_>, unit: u32) -> bool
     match first_unit {
         FirstUnit::Single(node, _) => meets(node, unit),
         FirstUnit::Alternatives(trees, _) => !left_of(trees, Some(unit)).is_empty(),
+        FirstUnit::Repeated(repeat, _) => meets(repeat.node, unit),
     }
 }
 

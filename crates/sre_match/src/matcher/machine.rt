@@ -5,7 +5,7 @@ ghost use Rattle.sre_match.specs.Cursor.{Cursor};
 ghost use Rattle.sre_match.specs.Fits.{task_fits, Fit, Stays, Remains, Ready};
 ghost use Rattle.std.specs.Prelude.{◌≡◌, ◌+◌, ◌≤◌, ℕ, Bool, true, List, [], None, IfOk, IfSome, option_map, length};
 ghost use Rattle.sre_match.specs.Machine.{allowed_by, part_next, task_next, to_try, ahead_of, Sound, Gives, Leaves, Progresses, outcome_at, rest_of, tried_at, trying};
-ghost use Rattle.sre_match.specs.Attempts.{chosen, cost_of};
+ghost use Rattle.sre_match.specs.Attempts.{Attempt, chosen, cost_of};
 ghost use Rattle.sre_match.specs.Paths.{paths};
 ghost use Rattle.sre_code.specs.TreeView.{tree_of};
 ghost use Rattle.sre_match.specs.Matches.{is_allowed, first_allowed, reads};
@@ -154,7 +154,37 @@ fn retry<'t>(current: &mut Current<'t>, trail: &mut Trail<'t>) -> Progress
     }
 }
 
-// A turn, and what it has come to: what is next, the newest choice, or an outcome.
+// What a turn has come to: what is next, the newest choice, or an outcome.
+fn come_to<'t, S: StrDrive>(
+    turn: Turn,
+    s: &Subject<'_, S>,
+    current: &mut Current<'t>,
+    trail: &mut Trail<'t>,
+    start: usize,
+    ends: AllowedEnds,
+) -> Progress
+    requires ready { Stays turn (S.fits s.now) current.old trail.old }
+    ensures progress { let is_end = is_allowed s.now start (allowed_by ends) in
+        (old new : ℕ) (before : List Attempt)
+        → Gives turn current.old s.now trail.old old new before
+        → Progresses result current.new is_end s.now trail.new old new before }
+    ensures ready { Remains result (S.fits s.now) current.new trail.new }
+{
+    match turn {
+        Turn::Go => Progress::More,
+        Turn::Fail => retry(current, trail),
+        Turn::Done => {
+            if is_allowed(s.count(), start, ends, current.cursor.place) {
+                Progress::Found
+            } else {
+                retry(current, trail)
+            }
+        }
+        Turn::Full => Progress::NoMemory,
+    }
+}
+
+// A turn, and what it has come to.
 fn next_turn<'t, S: StrDrive, L: Ledger>(
     s: &Subject<'_, S>,
     current: &mut Current<'t>,
@@ -170,18 +200,8 @@ fn next_turn<'t, S: StrDrive, L: Ledger>(
         (ahead_of current.old s.now trail.old) }
     ensures ready { Remains result (S.fits s.now) current.new trail.new }
 {
-    match take_turn(s, current, trail, steps) {
-        Turn::Go => Progress::More,
-        Turn::Fail => retry(current, trail),
-        Turn::Done => {
-            if is_allowed(s.count(), start, ends, current.cursor.place) {
-                Progress::Found
-            } else {
-                retry(current, trail)
-            }
-        }
-        Turn::Full => Progress::NoMemory,
-    }
+    let turn = take_turn(s, current, trail, steps);
+    come_to(turn, s, current, trail, start, ends)
 }
 
 /// The end of the first allowed outcome of what is to be tried. The trail then has its marks.
@@ -213,6 +233,37 @@ pub fn run_from<'t, S: StrDrive, L: Ledger>(
     }
     // No machine gets here, after 2^64 - 1 turns. The bound spares a second proof that they end.
     Err(AllocError)
+}
+
+/// The same after a turn that has left this to be tried.
+pub fn run_after<'t, S: StrDrive, L: Ledger>(
+    turn: Turn,
+    current: Current<'t>,
+    trail: &mut Trail<'t>,
+    s: &Subject<'_, S>,
+    start: usize,
+    ends: AllowedEnds,
+    steps: &mut Steps<L>,
+) -> Result<Option<StringCursor>, AllocError>
+    requires ready { Stays turn (S.fits s.now) current trail.old }
+    requires counter { S.counts L.name }
+    ensures fits { IfOk result (λ o. IfSome o (λ c. S.fits s.now c ≡ true)) }
+    ensures found { (old new : ℕ) (before : List Attempt)
+        → Gives turn current.entry s.now trail.old old new before
+        → IfOk result (λ o. option_map (outcome_at (captures trail.new.marks.items)) o
+        ≡ chosen (is_allowed s.now start (allowed_by ends)) before) }
+    ensures cost { let is_end = is_allowed s.now start (allowed_by ends) in
+        (old new : ℕ) (before : List Attempt)
+        → Gives turn current.entry s.now trail.old old new before
+        → steps.new + new ≤ steps.old + old + cost_of is_end before }
+{
+    let mut current = current;
+    match come_to(turn, s, &mut current, trail, start, ends) {
+        Progress::More => run_from(current, trail, s, start, ends, steps),
+        Progress::Found => Ok(Some(current.cursor)),
+        Progress::Nothing => Ok(None),
+        Progress::NoMemory => Err(AllocError),
+    }
 }
 
 /// The end of the first allowed outcome of a tree at a place. The trail then has its marks.

@@ -3,14 +3,17 @@
 ghost use Rattle.sre_match.specs.Cursor.{Cursor};
 ghost use Rattle.sre_match.specs.Fits.{Stays, Ready};
 ghost use Rattle.std.specs.Prelude.{◌≡◌, ◌+◌, ◌<◌, ◌≤◌, ◌^◌, ℕ, Bool, List, true, false, Some, length};
+ghost use Rattle.sre_match.specs.Anchors.{met_at};
+ghost use Rattle.sre_match.specs.FirstUnit.{repeat_node, Repeats};
 ghost use Rattle.sre_match.specs.Machine.{kind_paths, Gives, Linked, trying};
 ghost use Rattle.sre_match.specs.Paths.{paths, node_paths};
 ghost use Rattle.sre_match.specs.Repeats.{repeat_paths, room_in};
-ghost use Rattle.sre_match.specs.Singles.{is_single};
+ghost use Rattle.sre_match.specs.Singles.{is_single, meets};
 ghost use Rattle.sre_code.specs.PlainTree.{repeat, nothing, ◌then◌};
 ghost use Rattle.sre_code.specs.TreeView.{node_of};
 
 use crate::matcher::choices::keep;
+use crate::matcher::first_unit::UnitRepeat;
 use crate::matcher::iterations::rep_turn;
 use crate::matcher::singles::{only_single, run_length};
 use crate::matcher::subject::Subject;
@@ -198,4 +201,29 @@ pub fn repeat_turn<'t, S: StrDrive, L: Ledger>(
         Some(node) => single_repeat(kind, body, node, least, room, s, current, trail, steps),
         None => general_repeat(kind, body, least, room, current, trail),
     }
+}
+
+/// A repeat of one unit is next, at least once. The unit here is known, and meets its node.
+pub fn known_repeat<'t, S: StrDrive, L: Ledger>(
+    repeat: &UnitRepeat<'t>,
+    s: &Subject<'_, S>,
+    current: &mut Current<'t>,
+    trail: &mut Trail<'t>,
+    steps: &mut Steps<L>,
+) -> Turn
+    requires repeats { Repeats repeat.now }
+    requires within { current.old.cursor.place < length s.now }
+    requires met { met_at (meets (node_of repeat.now.node.now)) s.now current.old.cursor.place
+        ≡ true }
+    requires ready { Ready (S.fits s.now) current.old trail.old }
+    requires counter { S.counts L.name }
+    ensures gives { Gives result current.new s.now trail.new steps.old (steps.new + 1)
+        (trying (node_paths (repeat_node repeat.now) s.now) current.old s.now trail.old) }
+    ensures ready { Stays result (S.fits s.now) current.new trail.new }
+{
+    let room = room_in(s.count(), repeat.least, repeat.greatest);
+    s.skip(&mut current.cursor, 1);
+    single_repeat(
+        repeat.kind, repeat.body, repeat.node, repeat.least - 1, room, s, current, trail, steps,
+    )
 }

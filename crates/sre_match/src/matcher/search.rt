@@ -6,6 +6,8 @@ ghost use Rattle.sre_match.specs.FirstUnit.{Begins, allowed_from, first_unit_tre
 ghost use Rattle.sre_match.specs.Machine.{allowed_by, outcome_at, span_with};
 ghost use Rattle.sre_match.specs.Matches.{first_allowed, reads, next_span, next_reads};
 ghost use Rattle.sre_match.specs.Search.{allowed_in};
+ghost use Rattle.sre_match.specs.Anchored.{IsAnchored};
+ghost use Rattle.sre_code.specs.TreeView.{tree_of};
 
 use crate::matcher::candidate::find_at_candidate;
 use crate::matcher::first_unit::{FirstUnit, first_unit_of, next_candidate};
@@ -15,6 +17,8 @@ use crate::matcher::trail::Trail;
 use crate::request::Request;
 use crate::view::{StrDrive, StringCursor};
 use py_base::Steps;
+use sre_code::Node;
+use sre_code::opcodes::{AT_BEGINNING, AT_BEGINNING_STRING};
 use std::alloc::AllocError;
 use std::sync::ledger::Ledger;
 
@@ -123,6 +127,47 @@ fn candidate_ends<'c, S: StrDrive, L: Ledger>(
     }
 }
 
+// Whether a tree of some nodes begins with the anchor of the subject's beginning.
+fn is_anchored(nodes: &[Node]) -> bool
+    ensures { result ≡ true → IsAnchored (tree_of nodes.now) }
+{
+    match nodes {
+        [] => false,
+        [node, ..] => match node {
+            Node::At(anchor) => *anchor == AT_BEGINNING || *anchor == AT_BEGINNING_STRING,
+            _ => false,
+        },
+    }
+}
+
+// The same of a tree that is anchored at the beginning, where no other place is tried.
+fn anchored_ends<'c, S: StrDrive, L: Ledger>(
+    request: &Request<'c, S>,
+    trail: &mut Trail<'c>,
+    from: &StringCursor,
+    advance: bool,
+    steps: &mut Steps<L>,
+) -> Result<Option<(StringCursor, StringCursor)>, AllocError>
+    requires anchored { IsAnchored request.now.tree }
+    requires fits { S.fits request.now.subject from.now ≡ true }
+    requires counter { S.counts L.name }
+    ensures fits { IfOk result (λ o. IfSome o (λ x. S.fits request.now.subject x.1 ≡ true)) }
+    ensures found { let r = request.now in
+        IfOk result (λ o. option_map (span_with (captures trail.new.marks.items)) o
+        ≡ next_span r.tree r.subject from.now.place (allowed_in r advance)) }
+    ensures cost { let r = request.now in
+        steps.new ≤ steps.old + next_reads r.tree r.subject from.now.place (allowed_in r advance) }
+{
+    if from.place > 0 {
+        return Ok(None);
+    }
+    match first_end(request, trail, from, advance, steps) {
+        Err(_) => Err(AllocError),
+        Ok(None) => Ok(None),
+        Ok(Some(stop)) => Ok(Some((*from, stop))),
+    }
+}
+
 // The same of any tree, where each place is tried.
 fn tried_ends<'c, S: StrDrive, L: Ledger>(
     request: &Request<'c, S>,
@@ -173,8 +218,12 @@ pub fn next_ends<'c, S: StrDrive, L: Ledger>(
         steps.new ≤ steps.old + next_reads r.tree r.subject from.now.place (allowed_in r advance) }
 {
     let code = request.code;
-    match first_unit_of(code.tree().nodes()) {
-        Some(first_unit) => candidate_ends(request, &first_unit, trail, from, advance, steps),
-        None => tried_ends(request, trail, from, advance, steps),
+    let nodes = code.tree().nodes();
+    if let Some(first_unit) = first_unit_of(nodes) {
+        return candidate_ends(request, &first_unit, trail, from, advance, steps);
     }
+    if is_anchored(nodes) {
+        return anchored_ends(request, trail, from, advance, steps);
+    }
+    tried_ends(request, trail, from, advance, steps)
 }

@@ -8,13 +8,14 @@ use Rattle.sre_match.specs.Machine.{run, to_try}
 use Rattle.sre_match.specs.Attempts.{after, Next}
 use Rattle.sre_match.specs.Paths.{paths}
 use Rattle.sre_match.specs.Singles.{meets}
-use Rattle.sre_match.proofs.ChoiceLemmas.{on_ok}
 use Rattle.sre_match.proofs.KnownLemmas.{met_first}
-use Rattle.sre_match.proofs.LessLemmas.{leaves_then, leaves_is}
+use Rattle.sre_match.proofs.LessLemmas.{leaves_then, leaves_is, gives_is}
+use Rattle.sre_match.proofs.ProgressLemmas.{if_ok}
 use Rattle.sre_match.proofs.matcher.candidate.candidate_turn.Goals as goal
 
 pub returns-in-Single-clause-gives : goal.returns-in-Single-clause-gives
-returns-in-Single-clause-gives g c n =
+returns-in-Single-clause-gives g c =
+    let n = c.args.steps.now in
     let s = c.args.s.now in
     let at = c.args.current.now in
     let p = at.cursor.place in
@@ -31,14 +32,30 @@ returns-in-Single-clause-gives g c n =
     (met_first node more s t at.rest p m n (subst P c.in-Single.is c.requires.begins) met)
     (leaves_is (n + 1) _ _ (ap (λ q. to_try s t (after (paths more s q m) k)) (sym c.skip.ensures.place))))
 
-pub returns-in-Alternatives-clause-gives : goal.returns-in-Alternatives-clause-gives
-returns-in-Alternatives-clause-gives g c =
+pub returns-in-Ok-clause-gives : goal.returns-in-Ok-clause-gives
+returns-in-Ok-clause-gives g c =
+    let n = c.args.steps.now in
     let s = c.args.s.now in
     let at = c.args.current.now in
     let p = at.cursor.place in
     let t = c.args.trail.now in
     let m = (captures t.marks.items) in
     let k : Next = run t.frames.items at.rest s in
-    on_ok c.alternatives_turn.result
-    (λ given n. leaves_then n n (n + 1) _ _ _ (leaves_is n _ _ (ap (λ l. to_try s t (after (paths (first_unit_tree l) s p m) k)) c.in-Alternatives.is)) (given n))
-    c.alternatives_turn.ensures.gives
+    leaves_then n n (n + 1) _ _ _ (leaves_is n _ _ (ap (λ l. to_try s t (after (paths (first_unit_tree l) s p m) k)) c.in-Alternatives.is)) (c.in-Ok.ensures.gives n)
+
+pub returns-in-Repeated-clause-gives : goal.returns-in-Repeated-clause-gives
+returns-in-Repeated-clause-gives g c =
+    let s = c.args.s.now in
+    let at = c.args.current.now in
+    let p = at.cursor.place in
+    let t = c.args.trail.now in
+    let m = (captures t.marks.items) in
+    let k : Next = run t.frames.items at.rest s in
+    if_ok c.repeated_turn.result
+    (λ turn given. gives_is turn _ s _ _ _ _ _ (ap (λ l. to_try s t (after (paths (first_unit_tree l) s p m) k)) c.in-Repeated.is) given)
+    c.repeated_turn.ensures.gives
+
+pub repeated_turn-requires-clause-met : goal.repeated_turn-requires-clause-met
+repeated_turn-requires-clause-met g c =
+    let node = node_of c.in-Repeated.repeat.now.node.now in
+    ap (is_met (meets node)) (sym c.requires.unit) ∙ ap (λ l. meets_first l c.args.unit) (sym c.in-Repeated.is) ∙ c.requires.met

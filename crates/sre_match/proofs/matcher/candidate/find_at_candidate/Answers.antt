@@ -1,12 +1,14 @@
-use Rattle.std.proofs.Common.{refl, sym, ◌+◌, [], arith}
+use Rattle.std.proofs.Common.{refl, sym, ap, ◌∙◌, ◌+◌, arith}
 use Rattle.sre_match.specs.declared.matcher.trail.Current.{Current}
 use Rattle.sre_match.specs.declared.matcher.trail.Part.TheVariants.{Skip}
 use Rattle.sre_match.specs.FirstUnit.{first_unit_tree}
-use Rattle.sre_match.specs.Machine.{ahead_of, allowed_by, Leaves}
+use Rattle.sre_match.specs.Attempts.{chosen, cost_of}
+use Rattle.sre_match.specs.Machine.{allowed_by}
+use Rattle.sre_match.specs.Matches.{is_allowed}
 use Rattle.sre_match.specs.Paths.{paths}
 use Rattle.sre_match.proofs.KnownLemmas.{begins_with, first_read_paid}
-use Rattle.sre_match.proofs.ProgressLemmas.{first_ends, first_cost, if_ok}
-use Rattle.sre_match.proofs.LessLemmas.{leaves_then, leaves_is}
+use Rattle.sre_match.proofs.NextSpanLemmas.{first_within, reads_there}
+use Rattle.sre_match.proofs.ProgressLemmas.{if_ok}
 use Rattle.sre_match.proofs.matcher.candidate.find_at_candidate.Goals as goal
 
 pub returns-in-Err-clause-cost : goal.returns-in-Err-clause-cost
@@ -22,11 +24,11 @@ returns-in-Ok-clause-found g c =
     let e = c.clear.ensures in
     let start : Current = record { part = Skip; rest = 0; cursor = c.args.start.now } in
     let tree = first_unit_tree c.args.first_unit.now in
-    let xs = ahead_of c.candidate_turn.new.current s c.candidate_turn.new.trail in
-    let all : Leaves n (n + 1) (paths tree s i []) xs = leaves_then n n (n + 1) _ _ _ (leaves_is n _ _ (sym (begins_with (paths tree s) start s t e.marks e.frames e.choices refl))) (c.in-Ok.ensures.gives n) in
-    if_ok c.run_from.result
-    (λ o h. first_ends tree s i (allowed_by c.args.ends) n (n + 1) n xs _ (g.met.S.StrDrive.within s c.args.start.now c.requires.fits) all h)
-    c.run_from.ensures.found
+    let ok = is_allowed s i (allowed_by c.args.ends) in
+    let all = begins_with (paths tree s) start s t e.marks e.frames e.choices refl in
+    if_ok c.run_after.result
+    (λ o h. h ∙ ap (chosen ok) all ∙ sym (first_within tree s i (allowed_by c.args.ends) (g.met.S.StrDrive.within s c.args.start.now c.requires.fits)))
+    (c.run_after.ensures.found n (c.candidate_turn.new.steps + 1) _ c.in-Ok.ensures.gives)
 
 pub returns-in-Ok-clause-cost : goal.returns-in-Ok-clause-cost
 returns-in-Ok-clause-cost g c =
@@ -37,6 +39,6 @@ returns-in-Ok-clause-cost g c =
     let e = c.clear.ensures in
     let start : Current = record { part = Skip; rest = 0; cursor = c.args.start.now } in
     let tree = first_unit_tree c.args.first_unit.now in
-    let xs = ahead_of c.candidate_turn.new.current s c.candidate_turn.new.trail in
-    let all : Leaves n (n + 1) (paths tree s i []) xs = leaves_then n n (n + 1) _ _ _ (leaves_is n _ _ (sym (begins_with (paths tree s) start s t e.marks e.frames e.choices refl))) (c.in-Ok.ensures.gives n) in
-    first_cost tree s i (allowed_by c.args.ends) n (n + 1) (c.run_from.new.steps + 1) xs (g.met.S.StrDrive.within s c.args.start.now c.requires.fits) all (omega (arith, c.run_from.ensures.cost))
+    let ok = is_allowed s i (allowed_by c.args.ends) in
+    let all = begins_with (paths tree s) start s t e.marks e.frames e.choices refl in
+    omega (arith, c.run_after.ensures.cost n (c.candidate_turn.new.steps + 1) _ c.in-Ok.ensures.gives, ap (cost_of ok) all, reads_there tree s i (allowed_by c.args.ends) (g.met.S.StrDrive.within s c.args.start.now c.requires.fits))
