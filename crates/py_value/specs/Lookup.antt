@@ -37,8 +37,8 @@ abbrev pub index_of : Plain → Result ℤ PyError
 index_of k = ok_or (integer_of k) (Downcast IntClass (class_of k))
 
 -- the key that a value is
-abbrev pub needed_key : Plain → Result DictKey PyError
-needed_key k = ok_or (key_of k) (Downcast StrClass (class_of k))
+abbrev pub key_of_value : Plain → Result DictKey PyError
+key_of_value k = ok_or (key_of k) (Downcast StrClass (class_of k))
 
 -- what was found under a key, or the error that names it
 abbrev pub found_under : DictKey → Option Plain → Result Plain PyError
@@ -63,7 +63,8 @@ abbrev pub list_item : Plains → ℤ → Result Plain PyError
 list_item vs z = ok_or (value_in vs (place_in (size_of_values vs) z)) TupleIndex
 
 abbrev pub bytes_item : List ℕ → ℤ → Result Plain PyError
-bytes_item bs z = ok_or (option_map (λ b. int (pos b)) (byte_in bs (place_in (length bs) z))) TupleIndex
+bytes_item bs z =
+    ok_or (option_map (λ b. int (pos b)) (byte_in bs (place_in (length bs) z))) TupleIndex
 
 abbrev pub text_item : List ℕ → ℤ → Result Plain PyError
 text_item cs z = ok_or (option_map (λ c. str (c ∷ [])) (item_of cs z)) IndexOutOfRange
@@ -72,7 +73,7 @@ text_item cs z = ok_or (option_map (λ c. str (c ∷ [])) (item_of cs z)) IndexO
 abbrev pub handle_item : ℕ → Plain → Bool → Asking Plain
 handle_item h k false = gives (Err (NotSubscriptable Object))
 handle_item h k true =
-    gives (needed_key k) and_then λ key.
+    gives (key_of_value k) and_then λ key.
     asks h GetItem k (λ found. gives (found_under key found))
 
 -- `v[k]`
@@ -81,7 +82,7 @@ item (str cs) k = gives (index_of k) and_then λ z. gives (text_item cs z)
 item (bytes bs) k = gives (index_of k) and_then λ z. gives (bytes_item bs z)
 item (tuple vs) k = gives (index_of k) and_then λ z. gives (list_item vs z)
 item (list vs) k = gives (index_of k) and_then λ z. gives (list_item vs z)
-item (dict es) k = gives (needed_key k) and_then λ key. gives (found_under key (lookup key es))
+item (dict es) k = gives (key_of_value k) and_then λ key. gives (found_under key (lookup key es))
 item (handle h) k = tests h (handle_item h k)
 item v k = gives (Err (NotSubscriptable (class_of v)))
 

@@ -5,7 +5,8 @@ use Rattle.py_value.specs.Plain.{none, bool, tuple, list, empty, ◌then◌}
 use Rattle.py_value.specs.Printing.{repr_of, escaped}
 
 -- `repr([None, (True,)])`
-pub printed_list : repr_of (list (none then tuple (bool true then empty) then empty)) ≡ gives (Ok (codes "[None, (True,)]"))
+pub printed_list : repr_of (list (none then tuple (bool true then empty) then empty))
+    ≡ gives (Ok (codes "[None, (True,)]"))
 printed_list = refl
 
 -- `aé` in ASCII

@@ -26,8 +26,8 @@ pub(crate) fn index_of(key: &Value) -> PyResult<i128>
 }
 
 // The key that a value is.
-fn needed_key(alloc: Global, key: &Value) -> PyResult<DictKey>
-    ensures { Meets (spec.needed_key (plain_of key.now)) result }
+fn key_of_value(alloc: Global, key: &Value) -> PyResult<DictKey>
+    ensures { Meets (spec.key_of_value (plain_of key.now)) result }
 {
     match key {
         Value::Bool(value) => Ok(DictKey::Int(PyBool::new(*value).as_int())),
@@ -110,7 +110,7 @@ fn handle_item<H: Host>(alloc: Global, host: &mut H, handle: u64, key: &Value) -
     if !host.has_getitem(handle) {
         return Err(PyError::NotSubscriptable(ClassName::Object));
     }
-    let name = needed_key(alloc, key)?;
+    let name = key_of_value(alloc, key)?;
     match host.get_item(handle, key) {
         Ok(Some(value)) => Ok(value),
         Ok(None) => Err(PyError::Key(name_of(alloc, &name)?)),
@@ -137,7 +137,7 @@ pub fn get_item<H: Host>(alloc: Global, host: &mut H, obj: &Value, key: &Value) 
         Value::Bytes(bytes) => bytes_item(bytes, index_of(key)?),
         Value::Tuple(list) => list_item(alloc, list, index_of(key)?),
         Value::List(list) => list_item(alloc, list, index_of(key)?),
-        Value::Dict(dict) => dict_item(alloc, dict, &needed_key(alloc, key)?),
+        Value::Dict(dict) => dict_item(alloc, dict, &key_of_value(alloc, key)?),
         Value::Handle(handle) => handle_item(alloc, host, *handle, key),
         _ => Err(PyError::NotSubscriptable(obj.class())),
     }

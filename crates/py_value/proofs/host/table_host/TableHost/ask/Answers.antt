@@ -2,6 +2,6 @@ use Rattle.py_value.specs.ValueView.{plain_of}
 use Rattle.py_value.proofs.HostLemmas.{failed_tells}
 use Rattle.py_value.proofs.host.table_host.TableHost.ask.Goals as goal
 
-pub returns-then-count-clause-tells : goal.returns-then-count-clause-tells
-returns-then-count-clause-tells c =
-    failed_tells c.args.handle c.args.method (plain_of c.args.key.now) c.args.self.now c.count.new.self c.count.ensures.after c.count.ensures.later (c.count.ensures.rose c.if-count.true)
+pub returns-then-next_call_fails-clause-tells : goal.returns-then-next_call_fails-clause-tells
+returns-then-next_call_fails-clause-tells c =
+    failed_tells c.args.handle c.args.method (plain_of c.args.key.now) c.args.self.now c.next_call_fails.new.self c.next_call_fails.ensures.after c.next_call_fails.ensures.later (c.next_call_fails.ensures.rose c.if-next_call_fails.true)
