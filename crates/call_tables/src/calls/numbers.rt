@@ -1,5 +1,10 @@
 //! Calls that calculate with integers.
 
+ghost use Rattle.std.specs.Prelude.{◌≡◌};
+ghost use Rattle.std.specs.Vec.{vec_items};
+ghost use Rattle.call_tables.specs.Calls.Numbers.{of_one, with_optional, of_two, results, shifts, power_answer, numbers_answer};
+ghost use Rattle.call_tables.specs.Results.{AnswersIf, items_of, under};
+
 use super::{optional_int, order_number};
 use crate::fault::Fault;
 use crate::results::{Outcome, int, ints, number};
@@ -9,7 +14,9 @@ use py_int::PyInt;
 use std::alloc::Global;
 
 /// A call of the table `numbers`.
-pub fn answer(alloc: Global, name: &str, arguments: &[Token]) -> Outcome {
+pub fn answer(alloc: Global, name: &str, arguments: &[Token]) -> Outcome
+    ensures { AnswersIf (numbers_answer name.now arguments.now) (items_of vec_items result) }
+{
     match arguments {
         [Token::Int(one)] => of_one(alloc, name, PyInt::from(*one)),
         [Token::Int(one), other] => {
@@ -29,7 +36,9 @@ pub fn answer(alloc: Global, name: &str, arguments: &[Token]) -> Outcome {
     }
 }
 
-fn of_one(alloc: Global, name: &str, one: PyInt) -> Outcome {
+fn of_one(alloc: Global, name: &str, one: PyInt) -> Outcome
+    ensures { AnswersIf (of_one name.now one) (items_of vec_items result) }
+{
     match name {
         "invert" => int(alloc, Ok(one.invert())),
         "neg" => int(alloc, one.neg()),
@@ -38,7 +47,9 @@ fn of_one(alloc: Global, name: &str, one: PyInt) -> Outcome {
     }
 }
 
-fn with_optional(alloc: Global, name: &str, one: PyInt, other: Option<PyInt>) -> Outcome {
+fn with_optional(alloc: Global, name: &str, one: PyInt, other: Option<PyInt>) -> Outcome
+    ensures { AnswersIf (with_optional name.now one other) (items_of vec_items result) }
+{
     match (name, other) {
         ("round", digits) => int(alloc, one.round(digits)),
         (_, Some(other)) => of_two(alloc, name, one, other),
@@ -46,7 +57,9 @@ fn with_optional(alloc: Global, name: &str, one: PyInt, other: Option<PyInt>) ->
     }
 }
 
-fn of_two(alloc: Global, name: &str, one: PyInt, other: PyInt) -> Outcome {
+fn of_two(alloc: Global, name: &str, one: PyInt, other: PyInt) -> Outcome
+    ensures { AnswersIf (of_two name.now one other) (items_of vec_items result) }
+{
     match name {
         "divmod" => ints(alloc, one.divmod(other)),
         "rdivmod" => ints(alloc, one.rdivmod(other)),
@@ -62,7 +75,9 @@ fn of_two(alloc: Global, name: &str, one: PyInt, other: PyInt) -> Outcome {
 }
 
 // A call that may fail.
-fn result_of(name: &str, one: PyInt, other: PyInt) -> Option<PyResult<PyInt>> {
+fn result_of(name: &str, one: PyInt, other: PyInt) -> Option<PyResult<PyInt>>
+    ensures { result ≡ under name.now (results one other) }
+{
     match name {
         "add" => Some(one.add(other)),
         "sub" => Some(one.sub(other)),
@@ -76,7 +91,9 @@ fn result_of(name: &str, one: PyInt, other: PyInt) -> Option<PyResult<PyInt>> {
     }
 }
 
-fn shift_of(name: &str, one: PyInt, other: PyInt) -> Option<PyResult<PyInt>> {
+fn shift_of(name: &str, one: PyInt, other: PyInt) -> Option<PyResult<PyInt>>
+    ensures { result ≡ under name.now (shifts one other) }
+{
     match name {
         "lshift" => Some(one.lshift(other)),
         "rlshift" => Some(one.rlshift(other)),
@@ -87,13 +104,9 @@ fn shift_of(name: &str, one: PyInt, other: PyInt) -> Option<PyResult<PyInt>> {
     }
 }
 
-fn power(
-    alloc: Global,
-    name: &str,
-    base: PyInt,
-    exponent: PyInt,
-    modulus: Option<PyInt>,
-) -> Outcome {
+fn power(alloc: Global, name: &str, base: PyInt, exponent: PyInt, modulus: Option<PyInt>) -> Outcome
+    ensures { AnswersIf (power_answer name.now base exponent modulus) (items_of vec_items result) }
+{
     match (name, modulus) {
         ("pow", modulus) => int(alloc, base.pow(exponent, modulus)),
         ("modpow", Some(modulus)) => int(alloc, base.modpow(exponent, modulus)),
