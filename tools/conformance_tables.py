@@ -24,39 +24,52 @@ import pathlib
 import random
 import sys
 
+import character_runs
 import number_calls
 import python_regex
+import string_calls
 import text_calls
 from table_tokens import Instead
 
 FOLDER = pathlib.Path(__file__).resolve().parent.parent / "crates" / "conformance" / "data"
 TABLES = {"texts": text_calls.SEARCHES, "pieces": text_calls.PIECES, "slices": text_calls.SLICES,
-          "numbers": number_calls.ARITHMETIC, "forms": number_calls.FORMS, "values": number_calls.VALUES}
+          "numbers": number_calls.ARITHMETIC, "forms": number_calls.FORMS, "values": number_calls.VALUES,
+          "strings": string_calls.CALLS}
+ROWS = {"strings": string_calls.ROWS}
 REPLACED = "not_cpythons.txt"
 
 
-def made_calls(calls, seed, number):
+def made_calls(table, seed, number):
     """So many calls of each name, in the order of the names: the name, its arguments and the answer."""
-    for name, make in calls.items():
+    for name, make in TABLES[table].items():
         chance = random.Random(f"{seed}/{name}")
-        for _ in range(number):
+        rows = ROWS.get(table, {}).get(name, [])
+        for row in rows:
+            yield name, *row
+        for _ in range(number - len(rows)):
             yield name, *make(chance)
 
 
-def table(calls, seed, number):
-    lines = (" ".join([name, *arguments, "=", *answer]) for name, arguments, answer in made_calls(calls, seed, number))
+def all_calls(seed, number):
+    """The calls of each table, by the table's name."""
+    made = {table: list(made_calls(table, seed, number)) for table in TABLES}
+    return {**made, "characters": list(character_runs.made())}
+
+
+def table(calls):
+    lines = (" ".join([name, *arguments, "=", *answer]) for name, arguments, answer in calls)
     return "".join(line + "\n" for line in lines).encode("ascii")
 
 
-def replaced(seed, number):
-    """The answers that are not CPython's own: table, call, answer, what CPython gives, and how many."""
-    counts = collections.Counter(
-        (f"{table}.table", name, " ".join(answer), answer.given)
-        for table, calls in TABLES.items()
-        for name, _, answer in made_calls(calls, seed, number) if isinstance(answer, Instead)
-    )
-    lines = (f"{table} {name}: {answer} where CPython gives {given}: {n}"
-             for (table, name, answer, given), n in counts.items())
+def replaced(tables):
+    """The answers that are not CPython's own: table, call, answer, what CPython gives, and for how many inputs."""
+    counts = collections.Counter()
+    for name, calls in tables.items():
+        for call, _, answer in calls:
+            if isinstance(answer, Instead):
+                counts[f"{name}.table", call, answer.said, answer.given] += answer.inputs
+    lines = (f"{table} {name}: {said} where CPython gives {given}: {n}"
+             for (table, name, said, given), n in counts.items())
     return "".join(line + "\n" for line in lines).encode("ascii")
 
 
@@ -73,8 +86,9 @@ def main(words=None):
         print(f"conformance_tables.py: this Python cannot be used: {missing}", file=sys.stderr)
         return 2
     apart = 0
-    files = {f"{name}.table": table(calls, asked.seed, asked.calls) for name, calls in TABLES.items()}
-    files[REPLACED] = replaced(asked.seed, asked.calls)
+    tables = all_calls(asked.seed, asked.calls)
+    files = {f"{name}.table": table(calls) for name, calls in tables.items()}
+    files[REPLACED] = replaced(tables)
     for name, made in files.items():
         path = asked.folder / name
         if not asked.check:

@@ -27,11 +27,13 @@ def error(name):
 
 
 class Instead(list):
-    """An answer that is not CPython's own, and what CPython gives."""
+    """An answer that is not CPython's own: what is said of it, what CPython gives, and for how many inputs."""
 
-    def __init__(self, tokens, given):
+    def __init__(self, tokens, given, said=None, inputs=1):
         super().__init__(tokens)
         self.given = given
+        self.said = said or " ".join(tokens)
+        self.inputs = inputs
 
 
 def instead(name, given):

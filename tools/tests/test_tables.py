@@ -31,7 +31,8 @@ class Tables(unittest.TestCase):
         endings = collections.defaultdict(set)
         for (name, *_), answer in stored():
             endings[name].add(answer[1] if answer[0] == "error" else "answered")
-        self.assertEqual(len(endings), len({name for calls in conformance_tables.TABLES.values() for name in calls}))
+        made = {name for calls in conformance_tables.TABLES.values() for name in calls}
+        self.assertEqual(set(endings), made | {"tests_of_each", "repr_of_each", "ascii_of_each"})
         wanted = {
             "index": {"substring_not_found"}, "split": {"empty_separator"}, "rpartition": {"empty_separator"},
             "getitem_by_index": {"index_out_of_range"}, "getitem_by_slice": {"step_zero"},
@@ -42,6 +43,8 @@ class Tables(unittest.TestCase):
             "to_bytes": {"negative_to_unsigned", "int_too_big"},
             "try_int_radix": {"bad_base", "invalid_literal", "int_too_wide"},
             "modpow": {"modulus_zero", "not_invertible"}, "bool": set(), "concat_in_place": set(),
+            "center": {"fill_char"}, "zfill": set(), "encode": {"unknown_encoding"}, "decode": {"invalid_utf8"},
+            "strip": set(), "istitle": set(), "tests_of_each": set(),
         }
         for name, errors in wanted.items():
             self.assertEqual(endings[name], errors | {"answered"}, name)
@@ -62,20 +65,34 @@ class Tables(unittest.TestCase):
 
     def test_answers_that_are_not_cpythons_are_listed(self):
         lines = (DATA / "not_cpythons.txt").read_text("ascii").splitlines()
-        listed = {tuple(line.split(":")[0].split(" ")) for line in lines}
+        listed = {tuple(line.split(" where ")[0].split(": ")) for line in lines}
         found = set()
         for path in DATA.glob("*.table"):
             for line in path.read_text("ascii").splitlines():
-                if line.endswith((" = error int_too_wide", " = error not_carried")):
-                    found.add((path.name, line.split(" ")[0]))
-        self.assertEqual(listed, found)
+                call, _, answer = line.partition(" = ")
+                if answer in ("error int_too_wide", "error not_carried"):
+                    found.add((f"{path.name} {call.split(' ')[0]}", answer))
+        self.assertEqual({row for row in listed if row[1] in ("error int_too_wide", "error not_carried")}, found)
+        self.assertEqual({name.split(" ")[0] for name, _ in listed if (name, _) not in found},
+                         {"strings.table", "characters.table"})
+
+    def test_characters_are_in_the_ranges_once(self):
+        seen = collections.defaultdict(collections.Counter)
+        for line in (DATA / "characters.table").read_text("ascii").splitlines():
+            name, first, last, *_ = line.split(" ")
+            seen[name].update(range(int(first[1:]), int(last[1:]) + 1))
+        characters = [code for code in range(0x110000) if not 0xD800 <= code < 0xE000]
+        self.assertEqual(sorted(seen["ascii_of_each"]), characters)
+        self.assertEqual(seen["tests_of_each"], seen["repr_of_each"])
+        self.assertEqual({count for counts in seen.values() for count in counts.values()}, {1})
+        self.assertEqual(len(seen["repr_of_each"]), 282_186)  # the 282,230 that Unicode 14 has, without 44
 
     def test_the_stored_output_says_that_all_agree(self):
         path = DATA.parent / "stdout"
         if not path.exists():
             self.skipTest("the program conformance is not there")
         wanted, total = [], 0
-        for table in conformance_tables.TABLES:
+        for table in (*conformance_tables.TABLES, "characters"):
             lines = (DATA / f"{table}.table").read_text("ascii").splitlines()
             counts = collections.Counter(line.partition(" ")[0] for line in lines)
             wanted += [f"{table}.table", *(f"  {name} {n} of {n}" for name, n in counts.items())]

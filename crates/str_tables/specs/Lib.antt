@@ -1,0 +1,2 @@
+pub mod TestsOf
+pub mod Texts
