@@ -1,5 +1,5 @@
 #!/usr/bin/env python3
-"""Times calls on texts and integers of the program `bench_driver` beside the same calls of CPython.
+"""Times calls on texts, integers and pools of the program `bench_driver` beside the same calls of CPython.
 
     python3 bench/calls.py [CASE ..] [--sizes N ..] [--seconds S] [--runs N] [--program PATH]
     python3 bench/calls.py --instructions [CASE ..] [--sizes N ..] [--jobs N] [--program PATH]
@@ -54,7 +54,9 @@ WORDS = {
 TEXT_CALLS = ("find", "count", "startswith", "order", "equality", "replace", "split", "slice", "stepped", "join",
               "iterate", "strip", "center", "zfill", "expandtabs", "repr", "encode", "isalpha")
 NUMBER_CALLS = ("modpow", "divmod", "literal", "repr")
-CASES = (*(f"{call}_{language}" for call in TEXT_CALLS for language in WORDS), *NUMBER_CALLS)
+# The calls on a pool, each with how many texts the pool has.
+POOL_CALLS = {"intern": 100_000, "interned": 100_000, "internnew": 1_000_000}
+CASES = (*(f"{call}_{language}" for call in TEXT_CALLS for language in WORDS), *NUMBER_CALLS, *POOL_CALLS)
 FEWEST = 5  # calls of a run
 
 # A base, a dividend and an integer to be written, each one more at each call.
@@ -234,6 +236,44 @@ def sum_of_tested(letters, times):
     return total
 
 
+def identifiers(size):
+    return [f"name_{number}" for number in range(size)]
+
+
+def pool_calls(call, size):
+    """A function that makes so many calls on a pool of so many identifiers, and gives the sum."""
+    if call == "internnew":
+        return lambda times: sum_of_new(size, times)
+    places = {sys.intern(name): place for place, name in enumerate(identifiers(size))}
+    names = identifiers(size)  # the same in other places of memory; CPython keeps the hash of each
+    return lambda times: (sum_of_interned if call == "intern" else sum_of_looked_up)(places, names, times)
+
+
+def sum_of_interned(places, names, times):
+    total, size, numbers = 0, len(names), list(places.values())
+    for i in range(times):
+        sys.intern(names[i % size])
+        total += numbers[i % size]
+    return total
+
+
+def sum_of_looked_up(places, names, times):
+    total, size = 0, len(names)
+    for i in range(times):
+        total += places[names[i % size]]
+    return total
+
+
+def sum_of_new(size, times):
+    """Each call interns new texts and lets them go again."""
+    total = 0
+    for _ in range(times):
+        kept = [sys.intern(f"name_{number}") for number in range(size)]
+        total += len(kept)
+        del kept
+    return total
+
+
 def sum_of_powers(times):
     total = 0
     for i in range(times):
@@ -268,6 +308,8 @@ def sum_of_lengths(times):
 def cpython(case, size):
     """A function that makes so many calls of the case in CPython, and gives the sum."""
     numbers = dict(zip(NUMBER_CALLS, (sum_of_powers, sum_of_quotients, sum_of_literals, sum_of_lengths)))
+    if case in POOL_CALLS:
+        return pool_calls(case, size)
     return numbers[case] if case in numbers else text_calls(*case.split("_"), size)
 
 
@@ -302,7 +344,7 @@ def calibrated(program, case, size, seconds):
 def measured(asked, case, size):
     """The line of a case: size, calls, nanoseconds a call of both, and whether the sums agree."""
     times, one = calibrated(asked.program, case, size, asked.seconds)
-    if one > 1 and size > 1_000_000:
+    if one > 1 and size > 1_000_000 and case not in POOL_CALLS:
         return measured(asked, case, 1_000_000)
     calls, runs = cpython(case, size), range(asked.runs)
     frame = min(run_ours(asked.program, case, size, 0)[0] for _ in runs)
@@ -361,6 +403,8 @@ def print_instructions(asked):
 
 
 def sizes_of(asked, case):
+    if case in POOL_CALLS:
+        return [POOL_CALLS[case]]
     return [0] if case in NUMBER_CALLS else asked.sizes
 
 

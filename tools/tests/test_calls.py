@@ -39,7 +39,7 @@ class Runs(unittest.TestCase):
         for sizes in (["0", "3"], ["120", "1000"]):
             status, table = run("--sizes", *sizes)
             self.assertEqual(status, 0, table)
-            self.assertEqual(len(table.splitlines()), 1 + 36 * 2 + 4)
+            self.assertEqual(len(table.splitlines()), 1 + 36 * 2 + 4 + 3)
 
     def test_words_that_are_no_request_are_refused(self):
         for words in ([], ["modpow"], ["find", "1", "1"], ["find_ascii", "-1", "1"], ["repr", "0", "1", "2"],
