@@ -61,9 +61,13 @@ abbrev pub tell_differing : List ℕ → List ℕ → List ℕ → Told → Told
 tell_differing name line given told =
     and_text (codes "  differs: " ++ line ++ codes "\n    gives" ++ given ++ codes "\n") (add_line false (in_call name told))
 
+-- how many of how many
+abbrev pub counts_text : List ℕ → List ℕ → List ℕ
+counts_text agreeing calls = agreeing ++ (codes " of " ++ (calls ++ codes " calls agree\n"))
+
 -- the counts of all
 abbrev pub counts_of_all : Tally → List ℕ
-counts_of_all all = decimal all.agreeing ++ codes " of " ++ decimal all.calls ++ codes " calls agree\n"
+counts_of_all all = counts_text (decimal all.agreeing) (decimal all.calls)
 
 -- the end, after the last line of a call
 abbrev pub tell_all : Told → Told
