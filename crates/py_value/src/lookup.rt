@@ -161,7 +161,7 @@ fn handle_attr<H: Host>(host: &mut H, handle: u64, name: &PyStr) -> PyResult<Val
 ///
 /// # Errors
 ///
-/// `NoAttribute` where there is none. Memory runs out only where it does in the host.
+/// `NoAttribute` where there is none. For a value that is no handle memory does not run out.
 pub fn get_attr<H: Host>(_alloc: Global, host: &mut H, obj: &Value, name: &PyStr) -> PyResult<Value>
     ensures answers { Answers (spec.attr (plain_of obj.now) name.now)
         (H.seen host.old) (H.seen host.new) (plainly result) }
