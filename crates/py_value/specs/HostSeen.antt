@@ -77,4 +77,4 @@ table_of rows = record {
 }
 
 abbrev pub seen_of : InMemory → Seen
-seen_of host = record { table = Some (table_of host.rows); faults = host.faults; asked = None }
+seen_of host = record { table = Some (table_of host.rows); faults = host.faults; asked = None; runs_out = true }

@@ -161,7 +161,8 @@ fn handle_attr<H: Host>(host: &mut H, handle: u64, name: &PyStr) -> PyResult<Val
 ///
 /// # Errors
 ///
-/// `NoAttribute` where there is none. Memory runs out only where it does in the host.
+/// `NoAttribute` where there is none. Memory runs out only for a handle, and only where its host
+/// says that it may.
 pub fn get_attr<H: Host>(_alloc: Global, host: &mut H, obj: &Value, name: &PyStr) -> PyResult<Value>
     ensures answers { Answers (spec.attr (plain_of obj.now) name.now)
         (H.seen host.old) (H.seen host.new) (plainly result) }

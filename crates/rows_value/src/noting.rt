@@ -62,7 +62,7 @@ impl Noting {
 }
 
 impl Host for Noting {
-    ghost use Rattle.std.specs.Prelude.{None, Some, map};
+    ghost use Rattle.std.specs.Prelude.{None, Some, map, true};
     ghost use Rattle.py_value.specs.Asking.{question};
     ghost use Rattle.py_value.specs.ValueView.{plain_of};
 
@@ -70,6 +70,7 @@ impl Host for Noting {
       table = None;
       faults = 0;
       asked = Some (map (λ n. question n.handle n.method (plain_of n.key)) host.notes.items);
+      runs_out = true;
     } };
 
     fn has_getitem(&self, _handle: u64) -> bool {
