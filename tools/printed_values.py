@@ -1,16 +1,39 @@
 #!/usr/bin/env python3
-"""Writes crates/rows_value/src/nested.rt: nested values made by chance, and what CPython's `repr`
-and `ascii` make of them, and `str`, which makes of a tuple, a list or a dict what `repr` does. Run it
-at the top of the repository, and then `rt fmt` in that crate."""
+"""Writes crates/rows_printing/src/nested.rt: nested values made by chance, and what CPython's `repr`
+and `ascii` make of them. `str` makes of each what `repr` does, since each is a tuple, a list or a dict.
 
+    python3 tools/printed_values.py [--check] [--file FILE]
+
+Examples:
+
+    python3 tools/printed_values.py             # writes the file, laid out as `rt fmt` does
+    python3 tools/printed_values.py --check     # whether the stored file is as this would write it
+
+Ends with 0; with 1 where --check finds a file that is otherwise; with 2 where this is not CPython 3.11.
+"""
 import argparse
+import pathlib
 import random
+import sys
 
+import python_regex
+
+FILE = pathlib.Path(__file__).resolve().parent.parent / "crates" / "rows_printing" / "src" / "nested.rt"
 TEXTS = ["", "a", "'", '"', "'\"", "é", "\n", "\t\\", "\x7f", "🎅", "\u200b", "\ue000", "日本", "x y"]
 BYTES = [b"", b"a", b"'", b"'\"", b"\xff\x00", b"\r\n\t\\", b"~\x7f"]
 INTS = [0, 1, -1, 10, -200, 2**127 - 1, -(2**127)]
 STEPS = 14
 ROWS = 13
+COLUMNS = 100
+
+HEAD = """//! Nested values made by chance, and what CPython's `repr` and `ascii` make of them. The file is
+//! written by tools/printed_values.py.
+
+use crate::made::Step;
+
+/// The steps that make a value, its repr, and its ascii.
+pub(crate) const ROWS: [([Step; %d], &str, &str); %d] = [
+"""
 
 
 def rust_text(text):
@@ -20,10 +43,6 @@ def rust_text(text):
         )
         for c in text
     ) + '"'
-
-
-def rust_bytes(data):
-    return 'b"' + "".join("\\x%02x" % b for b in data) + '"'
 
 
 def leaf(chance):
@@ -77,34 +96,45 @@ def steps(v):
     return made + ["Step::%s(%d)" % ("Tuple" if isinstance(v, tuple) else "List", len(v))]
 
 
-def write_rows():
+def row(v):
+    """The lines of a value, laid out; none where it has too many or too few steps, or a long line."""
+    made = steps(v)
+    if not 9 <= len(made) <= STEPS or str(v) != repr(v):
+        return None
+    made = ["Step::None"] * (STEPS - len(made)) + made
+    lines = ["    (", "        [", *(f"            {step}," for step in made), "        ],",
+             f"        {rust_text(repr(v))},", f"        {rust_text(ascii(v))},", "    ),"]
+    return None if any(len(line) > COLUMNS for line in lines) else "".join(line + "\n" for line in lines)
+
+
+def table():
     chance = random.Random(7)
     rows = []
     while len(rows) < ROWS:
-        v = value(chance, 3)
-        made = steps(v)
-        if len(made) > STEPS or len(made) < 9:
-            continue
-        if str(v) != repr(v):
-            continue
-        made = ["Step::None"] * (STEPS - len(made)) + made
-        rows.append("    (\n        [%s],\n        %s,\n        %s,\n    ),\n"
-                    % (", ".join(made), rust_text(repr(v)), rust_text(ascii(v))))
-    with open("crates/rows_value/src/nested.rt", "w") as out:
-        out.write(HEAD % (STEPS, ROWS))
-        out.writelines(rows)
-        out.write("];\n")
+        made = row(value(chance, 3))
+        if made is not None:
+            rows.append(made)
+    return (HEAD % (STEPS, ROWS) + "".join(rows) + "];\n").encode("utf-8")
 
 
-HEAD = """//! Nested values made by chance, and what CPython's `repr` and `ascii` make of them. The file is
-//! written by tools/printed_values.py.
+def main(words=None):
+    raw = argparse.RawDescriptionHelpFormatter
+    parser = argparse.ArgumentParser(prog="printed_values.py", description=__doc__, formatter_class=raw)
+    parser.add_argument("--check", action="store_true", help="compare what is stored, and write nothing")
+    parser.add_argument("--file", type=pathlib.Path, default=FILE, metavar="FILE", help="of the table")
+    asked = parser.parse_args(words)
+    missing = python_regex.what_is_missing()
+    if missing:
+        print(f"printed_values.py: this Python cannot be used: {missing}", file=sys.stderr)
+        return 2
+    made = table()
+    if not asked.check:
+        asked.file.write_bytes(made)
+    elif not asked.file.exists() or asked.file.read_bytes() != made:
+        print(f"printed_values.py: {asked.file} is not what this Python gives", file=sys.stderr)
+        return 1
+    return 0
 
-use crate::made::Step;
-
-/// The steps that make a value, its repr, and its ascii.
-pub(crate) const ROWS: [([Step; %d], &str, &str); %d] = [
-"""
 
 if __name__ == "__main__":
-    argparse.ArgumentParser(description=__doc__).parse_args()
-    write_rows()
+    sys.exit(main())

@@ -54,6 +54,10 @@ class Tables(unittest.TestCase):
     def test_the_stored_tables_are_as_they_are_made(self):
         self.assertEqual(run("conformance_tables.py", "--check"), (0, b"", ""))
 
+    @needs_cpython
+    def test_the_stored_values_are_as_they_are_printed(self):
+        self.assertEqual(run("printed_values.py", "--check"), (0, b"", ""))
+
     def test_no_answer_is_past_128_bits(self):
         for _, answer in stored():
             for token in answer:

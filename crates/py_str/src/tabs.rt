@@ -17,7 +17,8 @@ use std::alloc::Global;
 // ASCII, so they are looked for among the bytes.
 fn first_stop(text: &str) -> Option<(&str, char, &str)>
     ensures text { IfSome result (λ p. IsUtf8 p.2.now) }
-    ensures before { MatchOption result (take_while spec.is_inside (chars text.now) ≡ chars text.now)
+    ensures before { MatchOption result
+        (take_while spec.is_inside (chars text.now) ≡ chars text.now)
         (λ p. take_while spec.is_inside (chars text.now) ≡ chars p.0.now) }
     ensures rest { MatchOption result (skip_while spec.is_inside (chars text.now) ≡ [])
         (λ p. skip_while spec.is_inside (chars text.now) ≡ p.1 ∷ chars p.2.now) }

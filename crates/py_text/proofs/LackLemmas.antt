@@ -1,14 +1,15 @@
 -- The pieces of a split lack the separator.
-use Rattle.std.proofs.Common.{◌≡◌, ℕ, ℤ, pos, negsuc, ◌<ℤ◌, ◌+◌, ◌<◌, ◌≤◌, max, All, List, [], ◌∷◌, ◌++◌, length, take, drop, slice_range, suc, zero, refl, ap, sym, ◌∙◌, arith, subst, Option, Some, None, option_map, append-nil, take-append-drop, length-drop}
+use Rattle.std.proofs.Common.{◌≡◌, ℕ, ℤ, pos, negsuc, ◌<ℤ◌, ◌+◌, ◌<◌, ◌≤◌, max, false, All, List, [], ◌∷◌, ◌++◌, reverse, length, take, drop, slice_range, suc, zero, refl, ap, sym, ◌∙◌, arith, subst, Option, Some, None, option_map, append-nil, take-append-drop, length-drop}
 use Rattle.std.proofs.lemmas.Int.{ints}
-use Rattle.std.proofs.lemmas.List.{length-take-le}
+use Rattle.std.proofs.lemmas.List.{length-take-le, length-reverse, reverse-reverse}
 use Rattle.std.proofs.lemmas.List.Elements.{All-nil, All-cons}
-use Rattle.py_text.specs.Laws.{AllButLast, Lacks, PiecesLackTheSeparator}
-use Rattle.py_text.specs.Occurrences.{occurs_at, occurrences, first_in}
+use Rattle.py_text.specs.Laws.{AllButLast, Lacks, PiecesLackTheSeparator, PiecesFromRightLackTheSeparator}
+use Rattle.py_text.specs.Occurrences.{occurs_at, occurrences, first_in, last_in}
 use Rattle.py_text.specs.Pieces.{pieces, limit}
-use Rattle.py_text.proofs.LeastLemmas.{first_is_least}
+use Rattle.py_text.proofs.LeastLemmas.{first_is_least, last_is_greatest}
+use Rattle.py_text.proofs.MirrorLemmas.{mirror_none}
 use Rattle.py_text.proofs.LawLemmas.{some_length}
-use Rattle.py_text.proofs.BetweenLemmas.{but_last_more}
+use Rattle.py_text.proofs.BetweenLemmas.{but_last_more, but_last_turned, each_turned}
 use Rattle.py_text.proofs.OccursLemmas.{occurs_means, occurs_true, least_none, not_true}
 use Rattle.py_text.proofs.OccurrenceLemmas.{cuts_some, cuts_none, max_one}
 use Rattle.py_text.proofs.WindowLemmas.{Inside, slice_inside, first_inside, first_means}
@@ -77,6 +78,25 @@ without_limit : (x L : List ℕ) (m : ℤ) → 0 < length x → m <ℤ pos 0 →
 without_limit x L (pos k) some h = absurd (omega (arith, ints))
 without_limit x L (negsuc k) some h = each (length L + 1) x L 0 some (omega arith) (omega arith)
 
+turned_without_limit : (x L : List ℕ) (m : ℤ) → 0 < length x → m <ℤ pos 0 → All (Lacks x) (pieces (reverse L) (length x) 0 (occurrences (limit (length L) m) x (reverse L) 0 (length (reverse L))))
+turned_without_limit x L (pos k) some h = absurd (omega (arith, ints))
+turned_without_limit x L (negsuc k) some h = each (length L + 1) x (reverse L) 0 some (omega arith) (omega (arith, length-reverse L))
+
 pub pieces_lack : PiecesLackTheSeparator
 pieces_lack = λ x L m n.
     (but_last (limit (length L) m) x L 0 (some_length x n), without_limit x L m (some_length x n))
+
+-- what lacks a text lacks it turned round, too
+lacks_turned : (x p : List ℕ) → Lacks (reverse x) p → Lacks x (reverse p)
+lacks_turned x p h =
+    let nowhere : (a : ℕ) → occurs_at (reverse x) p 0 (length p) a ≡ false = ((first_is_least (reverse x) p 0 (length p)).none).0 h in
+    let last : last_in (reverse x) p 0 (length p) ≡ None = ((last_is_greatest (reverse x) p 0 (length p)).none).1 nowhere in
+    subst (λ (y : List ℕ). Lacks y (reverse p)) (reverse-reverse x) (mirror_none (reverse x) p last)
+
+pub pieces_from_right_lack : PiecesFromRightLackTheSeparator
+pieces_from_right_lack = λ x L m n.
+    let some : 0 < length (reverse x) = omega (arith, length-reverse x, some_length x n) in
+    let turn : (p : List ℕ) → Lacks (reverse x) p → Lacks x (reverse p) = lacks_turned x in (
+      but_last_turned (Lacks (reverse x)) (Lacks x) turn _ (but_last (limit (length L) m) (reverse x) (reverse L) 0 some),
+      λ h. each_turned (Lacks (reverse x)) (Lacks x) turn _ (turned_without_limit (reverse x) L m some h),
+    )

@@ -117,7 +117,7 @@ skip_head : (q : ℕ → Bool) (L : List ℕ) (c : ℕ) (cs : List ℕ) → skip
 skip_head q [] c cs e = absurd (cc)
 skip_head q (d ∷ ds) c cs e = skip_head_case q d ds c cs (q d) refl (skip_head q ds c cs) e
 
-after_shorter : (c : ℕ) (cs : List ℕ) → is_ascii_whitespace c ≡ false → length (from_whitespace (c ∷ cs)) ≤ length cs
+pub after_shorter : (c : ℕ) (cs : List ℕ) → is_ascii_whitespace c ≡ false → length (from_whitespace (c ∷ cs)) ≤ length cs
 after_shorter c cs h =
     let on : from_whitespace (c ∷ cs) ≡ skip_while (λ d. not (is_ascii_whitespace d)) cs = ap (λ t. if not t then skip_while (λ d. not (is_ascii_whitespace d)) cs else c ∷ cs) h in
     omega (arith, ap length on, skip_le (λ d. not (is_ascii_whitespace d)) cs)

@@ -8,6 +8,7 @@ pub mod EndLemmas
 pub mod LackLemmas
 pub mod LawLemmas
 pub mod LeastLemmas
+pub mod LimitLemmas
 pub mod LineEndLemmas
 pub mod LineLemmas
 pub mod MirrorLemmas

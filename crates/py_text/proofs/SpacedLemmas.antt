@@ -1,11 +1,12 @@
 -- A text is its pieces between whitespace, and whitespace.
-use Rattle.std.specs.Prelude.{◌≡◌, ℕ, zero, suc, Bool, true, false, not, cond, if◌then◌else◌, List, [], ◌∷◌, ◌++◌, take_while, length}
+use Rattle.std.specs.Prelude.{◌≡◌, ℕ, zero, suc, Bool, true, false, not, cond, if◌then◌else◌, List, [], ◌∷◌, ◌++◌, reverse, take_while, length}
 use Rattle.std.proofs.Common.{refl, ap, sym, ◌∙◌, subst, append-nil}
 use Rattle.std.proofs.lemmas.List.Sums.{take_while-cons}
 use Rattle.std.proofs.lemmas.List.Elements.{All-nil, All-cons}
 use Rattle.py_base.specs.Chars.Whitespace.{is_ascii_whitespace, skip_while}
-use Rattle.py_text.specs.Laws.{HasOnlyWhitespace, IsCutOff, IsSpaced, WhitespacePiecesAreTheText}
+use Rattle.py_text.specs.Laws.{HasOnlyWhitespace, IsCutOff, IsSpaced, WhitespacePiecesAreTheText, WhitespacePiecesFromRightAreTheText}
 use Rattle.py_text.specs.Pieces.{limit}
+use Rattle.py_text.proofs.LimitLemmas.{mirrored_twice}
 use Rattle.py_text.specs.Whitespace.{until_whitespace, from_whitespace, split_whitespace}
 
 -- what is skipped is whitespace
@@ -67,3 +68,8 @@ spaced (suc k) L = spaced_more k L (skip_while is_ascii_whitespace L) refl (λ N
 
 pub whitespace_pieces : WhitespacePiecesAreTheText
 whitespace_pieces = λ m L. spaced (limit (length L) m) L
+
+pub whitespace_pieces_from_right : WhitespacePiecesFromRightAreTheText
+whitespace_pieces_from_right = λ m L.
+    let k = limit (length L) m in
+    subst (λ ps. IsSpaced ps (reverse L)) (sym (mirrored_twice (split_whitespace k (reverse L)))) (spaced k (reverse L))

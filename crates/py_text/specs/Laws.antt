@@ -1,10 +1,11 @@
 -- Laws of texts and bytes.
-use Rattle.std.specs.Prelude.{◌≡◌, ◌<◌, ◌≤◌, ◌≤ℤ◌, ◌↔◌, ◌≢◌, ◌<ℤ◌, ◌⊎◌, ⊤, ℕ, ◌+◌, zero, suc, ℤ, pos, Bool, IsTrue, true, false, All, List, [], ◌∷◌, ◌++◌, length, Option, Some, None}
+use Rattle.std.specs.Prelude.{◌≡◌, ◌<◌, ◌≤◌, ◌≤ℤ◌, ◌↔◌, ◌≢◌, ◌<ℤ◌, ◌⊎◌, ⊤, ℕ, ◌+◌, zero, suc, ℤ, pos, Bool, IsTrue, true, false, All, List, [], ◌∷◌, ◌++◌, length, reverse, Option, Some, None}
 use Rattle.std.specs.List.{concat}
 use Rattle.std.specs.Option.{option_to_list}
 use Rattle.std.specs.declared.cmp.Ordering.{Ordering}
 use Rattle.std.specs.declared.cmp.Ordering.TheVariants.{Less, Equal, Greater}
 use Rattle.py_base.specs.Chars.Whitespace.{is_ascii_whitespace}
+use Rattle.py_text.specs.Mirror.{mirrored}
 use Rattle.py_text.specs.Whitespace.{split_whitespace}
 use Rattle.py_text.specs.Occurrences.{occurrences, occurs_at, first_in, last_in}
 use Rattle.py_text.specs.Replacing.{join, replace}
@@ -126,23 +127,44 @@ AllButFirst P (p ∷ ps) = All P ps
 abbrev pub HasNoWhitespace : List ℕ → Type 0
 HasNoWhitespace p = All (λ c. is_ascii_whitespace c ≡ false) p
 
+-- no whitespace is first
+abbrev pub BeginsWithoutWhitespace : List ℕ → Type 0
+BeginsWithoutWhitespace [] = ⊤
+BeginsWithoutWhitespace (c ∷ cs) = is_ascii_whitespace c ≡ false
+
+-- no whitespace is last
+abbrev pub EndsWithoutWhitespace : List ℕ → Type 0
+EndsWithoutWhitespace p = BeginsWithoutWhitespace (reverse p)
+
 -- pieces between whitespace, and what is after them as the last
 pub record AreBetweenWhitespace (ps : List (List ℕ)) : Type 0 where
   pub not_empty : All (λ p. p ≢ []) ps
+  pub begin_without : All BeginsWithoutWhitespace ps
   pub no_whitespace : AllButLast HasNoWhitespace ps
 
 -- pieces between whitespace, and what is before them as the first
 pub record AreBetweenFromRight (ps : List (List ℕ)) : Type 0 where
   pub not_empty : All (λ p. p ≢ []) ps
+  pub end_without : All EndsWithoutWhitespace ps
   pub no_whitespace : AllButFirst HasNoWhitespace ps
 
--- the pieces of `split` without a separator are such, for each maxsplit
+-- the pieces of `split` without a separator are such, for each maxsplit, and where that sets no
+-- limit, the last has no whitespace either
 abbrev pub PiecesBetweenWhitespace : Type 0
-PiecesBetweenWhitespace = (m : ℤ) (L : List ℕ) → AreBetweenWhitespace (split_by None m L)
+PiecesBetweenWhitespace = (m : ℤ) (L : List ℕ)
+    → AreBetweenWhitespace (split_by None m L)
+    × (m <ℤ pos 0 → All HasNoWhitespace (split_by None m L))
 
--- and so are those of `rsplit`
+-- and so are those of `rsplit`, with the first in place of the last
 abbrev pub PiecesBetweenFromRight : Type 0
-PiecesBetweenFromRight = (m : ℤ) (L : List ℕ) → AreBetweenFromRight (rsplit_by None m L)
+PiecesBetweenFromRight = (m : ℤ) (L : List ℕ)
+    → AreBetweenFromRight (rsplit_by None m L)
+    × (m <ℤ pos 0 → All HasNoWhitespace (rsplit_by None m L))
+
+-- a limit of k leaves at most k + 1 pieces, from the left and from the right
+abbrev pub LimitBoundsThePieces : Type 0
+LimitBoundsThePieces = (x : Option (List ℕ)) (k : ℕ) (L : List ℕ)
+    → (length (split_by x (pos k) L) ≤ suc k) × (length (rsplit_by x (pos k) L) ≤ suc k)
 
 -- nothing but whitespace
 abbrev pub HasOnlyWhitespace : List ℕ → Type 0
@@ -163,6 +185,11 @@ IsSpaced (p ∷ ps) L =
 -- the text is the pieces of `split` without a separator, and the whitespace around them
 abbrev pub WhitespacePiecesAreTheText : Type 0
 WhitespacePiecesAreTheText = (m : ℤ) (L : List ℕ) → IsSpaced (split_by None m L) L
+
+-- read from right to left, the text is the pieces of `rsplit` without a separator in the same way
+abbrev pub WhitespacePiecesFromRightAreTheText : Type 0
+WhitespacePiecesFromRightAreTheText =
+    (m : ℤ) (L : List ℕ) → IsSpaced (mirrored (rsplit_by None m L)) (reverse L)
 
 -- the lines with their ends, joined, are the text
 abbrev pub LinesAreTheText : Type 0
@@ -200,6 +227,13 @@ PiecesLackTheSeparator =
     (x L : List ℕ) (m : ℤ) → x ≢ []
     → AllButLast (Lacks x) (split_by (Some x) m L)
     × (m <ℤ pos 0 → All (Lacks x) (split_by (Some x) m L))
+
+-- the same of `rsplit`, but for its first piece
+abbrev pub PiecesFromRightLackTheSeparator : Type 0
+PiecesFromRightLackTheSeparator =
+    (x L : List ℕ) (m : ℤ) → x ≢ []
+    → AllButFirst (Lacks x) (rsplit_by (Some x) m L)
+    × (m <ℤ pos 0 → All (Lacks x) (rsplit_by (Some x) m L))
 
 -- the pieces of `split`, joined by a separator that is not empty, are the text, for each maxsplit
 abbrev pub PiecesAreTheText : Type 0

@@ -1,7 +1,7 @@
 //! Laws of texts and bytes: facts that follow from the definitions, and from each type's own
 //! equality and order.
 
-ghost use Rattle.py_text.specs.Laws.{AreEqualAsLists, AreOrderedByFirstDifference, HavePrefixesFirst, AreEqualInOrder, AreComparedAsOrdered, HashAlike, HaveOneHash, GivesTheRest, NothingPastTheEnd, StaysExhausted, NoMorePlaces, FirstIsLeast, LastIsGreatest, NoMoreOccurrences, NoMoreReplaced, NoMoreWhitespacePieces, PiecesBetweenWhitespace, PiecesBetweenFromRight, WhitespacePiecesAreTheText, LinesAreTheText, LinesEndOnce, PiecesLackTheSeparator, PiecesAreTheText, PiecesFromRightAreTheText, PartsAreTheText};
+ghost use Rattle.py_text.specs.Laws.{AreEqualAsLists, AreOrderedByFirstDifference, HavePrefixesFirst, AreEqualInOrder, AreComparedAsOrdered, HashAlike, HaveOneHash, GivesTheRest, NothingPastTheEnd, StaysExhausted, NoMorePlaces, FirstIsLeast, LastIsGreatest, NoMoreOccurrences, NoMoreReplaced, NoMoreWhitespacePieces, PiecesBetweenWhitespace, PiecesBetweenFromRight, WhitespacePiecesAreTheText, WhitespacePiecesFromRightAreTheText, LimitBoundsThePieces, LinesAreTheText, LinesEndOnce, PiecesLackTheSeparator, PiecesFromRightLackTheSeparator, PiecesAreTheText, PiecesFromRightAreTheText, PartsAreTheText};
 
 use crate::bytes::PyBytes;
 use crate::text::PyStr;
@@ -118,14 +118,14 @@ pub fn no_more_whitespace_pieces()
     ensures { NoMoreWhitespacePieces }
 {}
 
-/// Of the pieces of `split` without a separator none is empty, and none but the last has
-/// whitespace.
+/// Of the pieces of `split` without a separator none is empty, none begins with whitespace, and
+/// none but the last has whitespace; without a limit none has.
 pub fn pieces_between_whitespace()
     ensures { PiecesBetweenWhitespace }
 {}
 
-/// Of the pieces of `rsplit` without a separator none is empty, and none but the first has
-/// whitespace.
+/// Of the pieces of `rsplit` without a separator none is empty, none ends with whitespace, and none
+/// but the first has whitespace; without a limit none has.
 pub fn pieces_between_from_right()
     ensures { PiecesBetweenFromRight }
 {}
@@ -134,6 +134,17 @@ pub fn pieces_between_from_right()
 /// between two of them and after them, and nothing else.
 pub fn whitespace_pieces_are_the_text()
     ensures { WhitespacePiecesAreTheText }
+{}
+
+/// The same of the pieces of `rsplit` without a separator, read from right to left.
+pub fn whitespace_pieces_from_right_are_the_text()
+    ensures { WhitespacePiecesFromRightAreTheText }
+{}
+
+/// A limit of k leaves at most k + 1 pieces, of `split` and of `rsplit`, with and without a
+/// separator.
+pub fn limit_bounds_the_pieces()
+    ensures { LimitBoundsThePieces }
 {}
 
 /// The lines with their ends, joined, are the text.
@@ -150,6 +161,11 @@ pub fn lines_end_once()
 /// The separator occurs in no piece of `split` but the last, and without a limit in none.
 pub fn pieces_lack_the_separator()
     ensures { PiecesLackTheSeparator }
+{}
+
+/// The separator occurs in no piece of `rsplit` but the first, and without a limit in none.
+pub fn pieces_from_right_lack_the_separator()
+    ensures { PiecesFromRightLackTheSeparator }
 {}
 
 /// The pieces of `split`, joined by the separator, are the text.

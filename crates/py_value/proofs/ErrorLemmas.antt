@@ -8,7 +8,7 @@ use Rattle.py_base.specs.declared.error.PyError.TheVariants.{NoMemory, HostFault
 use Rattle.py_base.specs.declared.error.type_names.ClassName.TheVariants.{Int as IntClass, Str as StrClass, Object}
 use Rattle.py_value.specs.Asking.{Asking, gives, asks, tests, ◌and_then◌, Seen, Comes, Answers, Fails, UnlessOutOfMemory}
 use Rattle.py_value.specs.Classes.{class_of, integer_of}
-use Rattle.py_value.specs.Lookup.{item, index_of, text_item, bytes_item, list_item, needed_key, found_under, handle_item, item_error, key_of, place_in, value_in, byte_in, attr, attr_error}
+use Rattle.py_value.specs.Lookup.{item, index_of, text_item, bytes_item, list_item, key_of_value, found_under, handle_item, item_error, key_of, place_in, value_in, byte_in, attr, attr_error}
 use Rattle.py_value.specs.Dict.{lookup}
 use Rattle.py_value.specs.declared.host.HostMethod.TheVariants.{GetItem}
 use Rattle.py_value.specs.Plain.{Plain, Plains, Entries, none, bool, int, str, bytes, tuple, list, dict, handle, empty, ◌then◌, no_entries, entry, depth}
@@ -49,12 +49,12 @@ fails_or p None e h = h
 index_named : (k : Plain) → Fails item_error (gives (index_of k))
 index_named k = fails_or item_error (integer_of k) (Downcast IntClass (class_of k)) refl
 
-key_named : (k : Plain) → Fails item_error (gives (needed_key k))
+key_named : (k : Plain) → Fails item_error (gives (key_of_value k))
 key_named k = fails_or item_error (key_of k) (Downcast StrClass (class_of k)) refl
 
 by_items : (h : ℕ) (k : Plain) (has : Bool) → Fails item_error (handle_item h k has)
 by_items h k false = refl
-by_items h k true = fails_then item_error (gives (needed_key k)) (λ key. asks h GetItem k (λ found. gives (found_under key found))) (key_named k) (λ key found. fails_or item_error _ _ refl)
+by_items h k true = fails_then item_error (gives (key_of_value k)) (λ key. asks h GetItem k (λ found. gives (found_under key found))) (key_named k) (λ key found. fails_or item_error _ _ refl)
 
 pub item_errors : (v k : Plain) → Fails item_error (item v k)
 item_errors none k = refl
@@ -64,7 +64,7 @@ item_errors (str cs) k = fails_then item_error (gives (index_of k)) (λ z. gives
 item_errors (bytes bs) k = fails_then item_error (gives (index_of k)) (λ z. gives (bytes_item bs z)) (index_named k) (λ z. fails_or item_error _ _ refl)
 item_errors (tuple vs) k = fails_then item_error (gives (index_of k)) (λ z. gives (list_item vs z)) (index_named k) (λ z. fails_or item_error _ _ refl)
 item_errors (list vs) k = fails_then item_error (gives (index_of k)) (λ z. gives (list_item vs z)) (index_named k) (λ z. fails_or item_error _ _ refl)
-item_errors (dict es) k = fails_then item_error (gives (needed_key k)) (λ key. gives (found_under key (lookup key es))) (key_named k) (λ key. fails_or item_error _ _ refl)
+item_errors (dict es) k = fails_then item_error (gives (key_of_value k)) (λ key. gives (found_under key (lookup key es))) (key_named k) (λ key. fails_or item_error _ _ refl)
 item_errors (handle h) k = λ has. by_items h k has
 
 pub attr_errors : (v : Plain) (name : List ℕ) → Fails attr_error (attr v name)

@@ -1,5 +1,5 @@
 -- What a call of a host in memory tells.
-use Rattle.std.proofs.Common.{◌≡◌, ◌≤◌, ℕ, Some, Err, ap}
+use Rattle.std.proofs.Common.{◌≡◌, ◌≤◌, ℕ, Some, Err, ap, refl}
 use Rattle.py_base.specs.Stream.Faults.{Rose}
 use Rattle.py_value.specs.declared.host.HostAnswer.TheVariants.{Failed}
 use Rattle.py_value.specs.declared.host.HostMethod.{HostMethod}
@@ -14,6 +14,7 @@ failed_tells h m k old new after later rose = record {
   kept = ap (λ (s : InMemory). Some (table_of s.rows)) after;
   later = later;
   failed = λ e. rose;
+  short = λ e. refl;
   told = tt;
   noted = tt;
 }

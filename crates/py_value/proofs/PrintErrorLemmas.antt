@@ -3,7 +3,7 @@ use Rattle.std.proofs.Common.{◌≡◌, ℕ, zero, suc, Bool, true, false, cond
 use Rattle.py_base.specs.declared.error.PyError.TheVariants.{TooDeep}
 use Rattle.py_value.specs.Asking.{Asking, gives, asks, ◌and_then◌, Fails}
 use Rattle.py_value.specs.Plain.{Plain, Plains, Entries, none, bool, int, str, bytes, tuple, list, dict, handle, empty, ◌then◌, no_entries, entry, depth}
-use Rattle.py_value.specs.Printing.{print_error, put_repr, put_values, put_entries, repr_of, str_of, ascii_of, text_of, text_after, handle_after, handle_text, comma, key_repr, tuple_end, escaped}
+use Rattle.py_value.specs.Printing.{print_error, put_repr, put_values, put_entries, repr_of, str_of, ascii_of, text_of, text_after, handle_after, handle_text, comma, key_repr, tuple_end, escaped, greatest_depth}
 use Rattle.py_value.proofs.ErrorLemmas.{fails_then}
 
 text_named : (t : List ℕ) (v : Plain) → Fails print_error (gives (text_after t v))
@@ -63,8 +63,8 @@ str_named (dict es) = repr_named (dict es) []
 str_named (handle h) = λ a. handle_text_named h a
 
 whole_named : (v : Plain) → Fails print_error (repr_of v)
-whole_named v = limit_named (nat_le (depth v) 200) (put_repr v []) (repr_named v [])
+whole_named v = limit_named (nat_le (depth v) greatest_depth) (put_repr v []) (repr_named v [])
 
 pub print_errors : (v : Plain) → Fails print_error (repr_of v) × Fails print_error (str_of v) × Fails print_error (ascii_of v)
 print_errors v =
-    (whole_named v, limit_named (nat_le (depth v) 200) (text_of v) (str_named v), fails_then print_error (repr_of v) (λ t. gives (Ok (escaped t))) (whole_named v) (λ t. tt))
+    (whole_named v, limit_named (nat_le (depth v) greatest_depth) (text_of v) (str_named v), fails_then print_error (repr_of v) (λ t. gives (Ok (escaped t))) (whole_named v) (λ t. tt))

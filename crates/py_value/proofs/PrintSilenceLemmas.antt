@@ -3,7 +3,7 @@ use Rattle.std.proofs.Common.{◌≡◌, ℕ, suc, zero, Bool, true, false, ◌&
 use Rattle.py_base.specs.declared.error.PyError.{PyError}
 use Rattle.py_value.specs.Asking.{Asking, gives, ◌and_then◌, silent}
 use Rattle.py_value.specs.Plain.{Plain, Plains, Entries, none, bool, int, str, bytes, tuple, list, dict, handle, empty, ◌then◌, no_entries, entry, bare, values_bare, entries_bare, depth}
-use Rattle.py_value.specs.Printing.{put_repr, put_values, put_entries, repr_of, str_of, ascii_of, text_of, comma, key_repr, tuple_end, escaped}
+use Rattle.py_value.specs.Printing.{put_repr, put_values, put_entries, repr_of, str_of, ascii_of, text_of, comma, key_repr, tuple_end, escaped, greatest_depth}
 use Rattle.py_value.proofs.SilenceLemmas.{silent_then}
 
 both_true : (a b : Bool) → (a && b) ≡ true → (a ≡ true) × (b ≡ true)
@@ -41,7 +41,7 @@ unless_silent true call e h = h
 unless_silent false call e h = refl
 
 pub repr_of_silent : (v : Plain) → bare v ≡ true → silent (repr_of v) ≡ true
-repr_of_silent v h = unless_silent (nat_le (depth v) 200) (put_repr v []) _ (repr_silent v [] h)
+repr_of_silent v h = unless_silent (nat_le (depth v) greatest_depth) (put_repr v []) _ (repr_silent v [] h)
 
 text_silent : (v : Plain) → bare v ≡ true → silent (text_of v) ≡ true
 text_silent none h = refl
@@ -55,7 +55,7 @@ text_silent (dict es) h = repr_silent (dict es) [] h
 text_silent (handle x) h = absurd (cc)
 
 pub str_of_silent : (v : Plain) → bare v ≡ true → silent (str_of v) ≡ true
-str_of_silent v h = unless_silent (nat_le (depth v) 200) (text_of v) _ (text_silent v h)
+str_of_silent v h = unless_silent (nat_le (depth v) greatest_depth) (text_of v) _ (text_silent v h)
 
 pub ascii_of_silent : (v : Plain) → bare v ≡ true → silent (ascii_of v) ≡ true
 ascii_of_silent v h = silent_then (repr_of v) (λ t. gives (Ok (escaped t))) (repr_of_silent v h) (λ t. refl)

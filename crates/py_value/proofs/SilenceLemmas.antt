@@ -2,7 +2,7 @@
 use Rattle.std.proofs.Common.{◌≡◌, ◌∙◌, ℕ, suc, zero, Bool, true, false, ◌&&◌, List, ◌++◌, Result, Ok, Err, refl, cond, nat_le, codes, []}
 use Rattle.py_base.specs.declared.error.PyError.{PyError}
 use Rattle.py_value.specs.Asking.{Asking, gives, asks, tests, ◌and_then◌, silent}
-use Rattle.py_value.specs.Lookup.{item, attr, index_of, text_item, bytes_item, list_item, needed_key, found_under}
+use Rattle.py_value.specs.Lookup.{item, attr, index_of, text_item, bytes_item, list_item, key_of_value, found_under}
 use Rattle.py_value.specs.Dict.{lookup}
 use Rattle.py_value.specs.Plain.{Plain, Plains, Entries, none, bool, int, str, bytes, tuple, list, dict, handle, empty, ◌then◌, no_entries, entry, bare, values_bare, entries_bare, depth}
 
@@ -24,7 +24,7 @@ item_silent (str cs) k h = given_then (index_of k) (λ z. gives (text_item cs z)
 item_silent (bytes bs) k h = given_then (index_of k) (λ z. gives (bytes_item bs z)) (λ z. refl)
 item_silent (tuple vs) k h = given_then (index_of k) (λ z. gives (list_item vs z)) (λ z. refl)
 item_silent (list vs) k h = given_then (index_of k) (λ z. gives (list_item vs z)) (λ z. refl)
-item_silent (dict es) k h = given_then (needed_key k) (λ key. gives (found_under key (lookup key es))) (λ key. refl)
+item_silent (dict es) k h = given_then (key_of_value k) (λ key. gives (found_under key (lookup key es))) (λ key. refl)
 item_silent (handle x) k h = absurd (cc)
 
 pub attr_silent : (v : Plain) (name : List ℕ) → bare v ≡ true → silent (attr v name) ≡ true

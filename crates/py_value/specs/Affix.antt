@@ -1,11 +1,9 @@
--- Prefixes and suffixes that are a text or a tuple of texts, and one character of a text.
-use Rattle.std.specs.Prelude.{ℕ, nat_le, if◌then◌else◌, Bool, true, false, List, [], ◌∷◌, length, ℤ, Option, Some, None, Result, Ok, Err, ok_or}
-use Rattle.std.specs.Option.{option_map}
+-- Prefixes and suffixes that are a text or a tuple of texts.
+use Rattle.std.specs.Prelude.{ℕ, nat_le, if◌then◌else◌, Bool, true, false, List, length, ℤ, Option, Result, Ok, Err}
 use Rattle.py_base.specs.declared.error.type_names.ClassName.TheVariants.{Str as StrClass}
 use Rattle.py_base.specs.declared.error.PyError.{PyError}
-use Rattle.py_base.specs.declared.error.PyError.TheVariants.{Downcast, IndexOutOfRange}
+use Rattle.py_base.specs.declared.error.PyError.TheVariants.{Downcast}
 use Rattle.py_text.specs.Search.{begins_with, ends_with}
-use Rattle.py_text.specs.Subscript.{item_of}
 use Rattle.py_text.specs.Window.{window_start, window_end}
 use Rattle.py_value.specs.Classes.{class_of}
 use Rattle.py_value.specs.Plain.{Plain, Plains, str, tuple, empty, ◌then◌}
@@ -46,8 +44,3 @@ starts_with_value L v start end =
 abbrev pub ends_with_value : List ℕ → Plain → Option ℤ → Option ℤ → Result Bool PyError
 ends_with_value L v start end =
     in_window (length L) start end (affix_passes (λ x. ends_with x L start end) v)
-
--- the text of the character at an index
-abbrev pub char_at : List ℕ → Result ℤ PyError → Result (List ℕ) PyError
-char_at L (Ok z) = ok_or (option_map (λ c. c ∷ []) (item_of L z)) IndexOutOfRange
-char_at L (Err e) = Err e

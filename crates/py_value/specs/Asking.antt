@@ -29,12 +29,14 @@ pub record Question : Type 0 where
 abbrev pub question : ℕ → HostMethod → Plain → Question
 question h m k = record { handle = h; method = m; key = k }
 
--- what contracts see of a host: its table, where it tells one, how often it has failed, and which
--- questions it was asked, the first one first, where it keeps them
+-- what contracts see of a host: its table, where it tells one, how often it has failed, which
+-- questions it was asked, the first one first, where it keeps them, and whether memory may run out
+-- in its next answer
 pub record Seen : Type 0 where
   pub table : Option Table
   pub faults : ℕ
   pub asked : Option (List Question)
+  pub runs_out : Bool
 
 -- a call is its result, or a question to the host and how the call goes on with each answer
 pub data Asking (A : Type 0) : Type 0 where
@@ -81,6 +83,7 @@ pub record Tells (h : ℕ) (m : HostMethod) (k : Plain) (old new : Seen)
   pub kept : new.table ≡ old.table
   pub later : old.faults ≤ new.faults
   pub failed : result ≡ Err Failed → Rose old.faults new.faults
+  pub short : result ≡ Err RanOut → old.runs_out ≡ true
   pub told : IfOk result (λ a. IfSome old.table (λ t. t.answer h m k ≡ option_map plain_of a))
   pub noted : IfSome old.asked
       (λ qs. UnlessHostRanOut result (new.asked ≡ Some (qs ++ (question h m k ∷ []))))

@@ -33,12 +33,22 @@ some_later true v o h = refl
 some_later false v o h = h
 
 -- a row of items is found by its own key
-pub items_found : (h : ℕ) (rows : List HostRow) → has_items h rows ≡ true → (k : Plain) × IsSome (first_answer h GetItem k rows)
+pub items_found : (h : ℕ) (rows : List HostRow) → has_items h rows ≡ true
+    → (k : Plain) × IsSome (first_answer h GetItem k rows)
 items_found h [] e = absurd (false_is_not_true e)
-items_found h (row ∷ rows) e = elim (either_true (fits h GetItem (plain_of row.key) row) (has_items h rows) e) [
-  | inl here ↦ (plain_of row.key, some_here (fits h GetItem (plain_of row.key) row) (plain_of row.answer) (first_answer h GetItem (plain_of row.key) rows) here)
-  | inr more ↦ (let p = items_found h rows more in (p.0, some_later (fits h GetItem p.0 row) (plain_of row.answer) (first_answer h GetItem p.0 rows) p.1))
-]
+items_found h (row ∷ rows) e =
+    elim (either_true (fits h GetItem (plain_of row.key) row) (has_items h rows) e) [
+      | inl here ↦ (
+        plain_of row.key,
+        some_here (fits h GetItem (plain_of row.key) row) (plain_of row.answer)
+            (first_answer h GetItem (plain_of row.key) rows) here,
+      )
+      | inr more ↦ (let p = items_found h rows more in (
+        p.0,
+        some_later (fits h GetItem p.0 row) (plain_of row.answer)
+            (first_answer h GetItem p.0 rows) p.1,
+      ))
+    ]
 
 same_self : (v k : Plain) → same_value v k ≡ true → same_value v v ≡ true
 same_self none k h = refl
@@ -51,22 +61,29 @@ same_self (list vs) k h = absurd (false_is_not_true h)
 same_self (dict es) k h = absurd (false_is_not_true h)
 same_self (handle x) k h = absurd (false_is_not_true h)
 
-self_fits : (h : ℕ) (m : HostMethod) (k : Plain) (row : HostRow) → fits h m k row ≡ true → fits h m (plain_of row.key) row ≡ true
+self_fits : (h : ℕ) (m : HostMethod) (k : Plain) (row : HostRow) → fits h m k row ≡ true
+    → fits h m (plain_of row.key) row ≡ true
 self_fits h m k row e =
-    let p = both_true (row.handle == h && method_number row.method == method_number m) (same_value (plain_of row.key) k) e in
-    ap (λ b. b && same_value (plain_of row.key) (plain_of row.key)) p.0 ∙ same_self (plain_of row.key) k p.1
+    let p = both_true (row.handle == h && method_number row.method == method_number m)
+    (same_value (plain_of row.key) k) e in
+    ap (λ b. b && same_value (plain_of row.key) (plain_of row.key)) p.0
+    ∙ same_self (plain_of row.key) k p.1
 
-here_or : (b : Bool) (v : Plain) (o : Option Plain) → IsSome (cond b (Some v) o) → (b ≡ true) ⊎ IsSome o
+here_or : (b : Bool) (v : Plain) (o : Option Plain) → IsSome (cond b (Some v) o)
+    → (b ≡ true) ⊎ IsSome o
 here_or true v o h = inl refl
 here_or false v o h = inr h
 
 -- and what is found under a key is in a row of items
-pub found_items : (h : ℕ) (rows : List HostRow) (k : Plain) → IsSome (first_answer h GetItem k rows) → has_items h rows ≡ true
+pub found_items : (h : ℕ) (rows : List HostRow) (k : Plain) → IsSome (first_answer h GetItem k rows)
+    → has_items h rows ≡ true
 found_items h [] k e = absurd (false_is_not_true e)
-found_items h (row ∷ rows) k e = elim (here_or (fits h GetItem k row) (plain_of row.answer) (first_answer h GetItem k rows) e) [
-  | inl here ↦ ap (λ b. b || has_items h rows) (self_fits h GetItem k row here)
-  | inr more ↦ right_true (fits h GetItem (plain_of row.key) row) (has_items h rows) (found_items h rows k more)
-]
+found_items h (row ∷ rows) k e =
+    elim (here_or (fits h GetItem k row) (plain_of row.answer) (first_answer h GetItem k rows) e) [
+      | inl here ↦ ap (λ b. b || has_items h rows) (self_fits h GetItem k row here)
+      | inr more ↦ right_true (fits h GetItem (plain_of row.key) row) (has_items h rows)
+          (found_items h rows k more)
+    ]
 
 -- the table of rows
 abbrev pub table_of : List HostRow → Table
@@ -77,4 +94,9 @@ table_of rows = record {
 }
 
 abbrev pub seen_of : InMemory → Seen
-seen_of host = record { table = Some (table_of host.rows); faults = host.faults; asked = None }
+seen_of host = record {
+  table = Some (table_of host.rows);
+  faults = host.faults;
+  asked = None;
+  runs_out = true;
+}

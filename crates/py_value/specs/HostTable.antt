@@ -49,12 +49,15 @@ is_row_key _ = false
 
 -- the row answers for this handle, this method and this key
 abbrev pub fits : ℕ → HostMethod → Plain → HostRow → Bool
-fits h m k row = row.handle == h && method_number row.method == method_number m && same_value (plain_of row.key) k
+fits h m k row =
+    row.handle == h && method_number row.method == method_number m
+    && same_value (plain_of row.key) k
 
 -- what the first row that fits answers
 abbrev pub first_answer : ℕ → HostMethod → Plain → List HostRow → Option Plain
 first_answer h m k [] = None
-first_answer h m k (row ∷ rows) = if fits h m k row then Some (plain_of row.answer) else first_answer h m k rows
+first_answer h m k (row ∷ rows) =
+    if fits h m k row then Some (plain_of row.answer) else first_answer h m k rows
 
 -- a row of items is of this handle
 abbrev pub has_items : ℕ → List HostRow → Bool
@@ -70,7 +73,12 @@ pub record InMemory : Type 0 where
   pub faults : ℕ
 
 abbrev pub in_memory : List HostRow → List ℕ → ℕ → ℕ → InMemory
-in_memory rows fails calls faults = record { rows = rows; fails = fails; calls = calls; faults = faults }
+in_memory rows fails calls faults = record {
+  rows = rows;
+  fails = fails;
+  calls = calls;
+  faults = faults;
+}
 
 -- the next call fails
 abbrev pub call_fails : InMemory → Bool

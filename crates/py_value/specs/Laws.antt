@@ -9,14 +9,21 @@ use Rattle.py_value.specs.Dict.{same_key, lookup, put}
 use Rattle.py_value.specs.Lookup.{item, item_error, attr, attr_error}
 use Rattle.py_value.specs.Plain.{Plain, Entries, bare}
 
--- where the host tells its table, an answer is the table's, or memory ran out, or the host failed and its count rose
+-- where the host tells its table, an answer is the table's, or memory ran out, or the host failed
+-- and its count rose
 abbrev pub AnswersTheTable : Type 0 → Type 0
-AnswersTheTable A = (call : Asking A) (old new : Seen) (t : Table) (result : Result A PyError) → Answers call old new result → old.table ≡ Some t
-    → (result ≡ by_table t call) ⊎ (result ≡ Err NoMemory) ⊎ ((result ≡ Err HostFault) × Rose old.faults new.faults)
+AnswersTheTable A =
+    (call : Asking A) (old new : Seen) (t : Table) (result : Result A PyError)
+    → Answers call old new result → old.table ≡ Some t
+    → (result ≡ by_table t call) ⊎ (result ≡ Err NoMemory)
+    ⊎ ((result ≡ Err HostFault) × Rose old.faults new.faults)
 
--- a call that asks nothing answers for every host what it does under any table, unless memory ran out
+-- a call that asks nothing answers for every host what it does under any table, unless memory ran
+-- out
 abbrev pub AnswersAlone : Type 0 → Type 0
-AnswersAlone A = (call : Asking A) (old new : Seen) (t : Table) (result : Result A PyError) → Answers call old new result → silent call ≡ true
+AnswersAlone A =
+    (call : Asking A) (old new : Seen) (t : Table) (result : Result A PyError)
+    → Answers call old new result → silent call ≡ true
     → (result ≡ by_table t call) ⊎ (result ≡ Err NoMemory)
 
 -- a host that keeps its questions was asked those of the definition, in their order, where nothing
@@ -52,9 +59,12 @@ OthersStay =
     (i k : DictKey) (v : Plain) (es : Entries)
     → same_key k i ≡ false → lookup i (put k v es) ≡ lookup i es
 
--- an error is one that the call may come to, for every host, or memory ran out, or the host failed and its count rose
+-- an error is one that the call may come to, for every host, or memory ran out, or the host failed
+-- and its count rose
 abbrev pub ErrorsAreNamed : Type 0 → Type 0
-ErrorsAreNamed A = (named : PyError → Bool) (call : Asking A) (old new : Seen) (e : PyError) → Fails named call → Answers call old new (Err e)
+ErrorsAreNamed A =
+    (named : PyError → Bool) (call : Asking A) (old new : Seen) (e : PyError) → Fails named call
+    → Answers call old new (Err e)
     → (named e ≡ true) ⊎ (e ≡ NoMemory) ⊎ ((e ≡ HostFault) × Rose old.faults new.faults)
 
 -- the errors of `v[k]` and of `v.name` are these

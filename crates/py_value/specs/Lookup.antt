@@ -1,5 +1,5 @@
 -- The items and attributes of values, by the rules of Python.
-use Rattle.std.specs.Prelude.{ℕ, ◌+◌, ◌-◌, nat_lt, slice_get, if◌then◌else◌, length, Bool, true, false, List, [], ◌∷◌, ℤ, pos, negsuc, Option, Some, None, Result, Ok, Err, ok_or}
+use Rattle.std.specs.Prelude.{ℕ, ◌+◌, ◌-◌, nat_lt, slice_get, if◌then◌else◌, length, Bool, true, false, List, [], ◌∷◌, ℤ, pos, negsuc, Option, Some, None, is_some, Result, Ok, Err, ok_or}
 use Rattle.std.specs.Option.{option_map}
 use Rattle.py_base.specs.declared.error.type_names.ClassName.{ClassName}
 use Rattle.py_base.specs.declared.error.type_names.ClassName.TheVariants.{Int as IntClass, Str as StrClass, Object}
@@ -37,8 +37,8 @@ abbrev pub index_of : Plain → Result ℤ PyError
 index_of k = ok_or (integer_of k) (Downcast IntClass (class_of k))
 
 -- the key that a value is
-abbrev pub needed_key : Plain → Result DictKey PyError
-needed_key k = ok_or (key_of k) (Downcast StrClass (class_of k))
+abbrev pub key_of_value : Plain → Result DictKey PyError
+key_of_value k = ok_or (key_of k) (Downcast StrClass (class_of k))
 
 -- what was found under a key, or the error that names it
 abbrev pub found_under : DictKey → Option Plain → Result Plain PyError
@@ -63,16 +63,22 @@ abbrev pub list_item : Plains → ℤ → Result Plain PyError
 list_item vs z = ok_or (value_in vs (place_in (size_of_values vs) z)) TupleIndex
 
 abbrev pub bytes_item : List ℕ → ℤ → Result Plain PyError
-bytes_item bs z = ok_or (option_map (λ b. int (pos b)) (byte_in bs (place_in (length bs) z))) TupleIndex
+bytes_item bs z =
+    ok_or (option_map (λ b. int (pos b)) (byte_in bs (place_in (length bs) z))) TupleIndex
 
 abbrev pub text_item : List ℕ → ℤ → Result Plain PyError
 text_item cs z = ok_or (option_map (λ c. str (c ∷ [])) (item_of cs z)) IndexOutOfRange
+
+-- the text of the character at an index
+abbrev pub char_at : List ℕ → Result ℤ PyError → Result (List ℕ) PyError
+char_at cs (Ok z) = ok_or (option_map (λ c. c ∷ []) (item_of cs z)) IndexOutOfRange
+char_at cs (Err e) = Err e
 
 -- a handle that has items is asked with the key as it is
 abbrev pub handle_item : ℕ → Plain → Bool → Asking Plain
 handle_item h k false = gives (Err (NotSubscriptable Object))
 handle_item h k true =
-    gives (needed_key k) and_then λ key.
+    gives (key_of_value k) and_then λ key.
     asks h GetItem k (λ found. gives (found_under key found))
 
 -- `v[k]`
@@ -81,9 +87,19 @@ item (str cs) k = gives (index_of k) and_then λ z. gives (text_item cs z)
 item (bytes bs) k = gives (index_of k) and_then λ z. gives (bytes_item bs z)
 item (tuple vs) k = gives (index_of k) and_then λ z. gives (list_item vs z)
 item (list vs) k = gives (index_of k) and_then λ z. gives (list_item vs z)
-item (dict es) k = gives (needed_key k) and_then λ key. gives (found_under key (lookup key es))
+item (dict es) k = gives (key_of_value k) and_then λ key. gives (found_under key (lookup key es))
 item (handle h) k = tests h (handle_item h k)
 item v k = gives (Err (NotSubscriptable (class_of v)))
+
+-- a look-up by a key of the right class takes memory, since what is found is copied; one in bytes
+-- finds a number
+abbrev pub item_takes_memory : Plain → Plain → Bool
+item_takes_memory (str cs) k = is_some (integer_of k)
+item_takes_memory (tuple vs) k = is_some (integer_of k)
+item_takes_memory (list vs) k = is_some (integer_of k)
+item_takes_memory (dict es) k = is_some (key_of k)
+item_takes_memory (handle h) k = true
+item_takes_memory v k = false
 
 -- the errors of `v[k]`
 abbrev pub item_error : PyError → Bool

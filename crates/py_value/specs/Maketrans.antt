@@ -65,6 +65,6 @@ given Missing = None
 given (Present cs) = Some cs
 
 -- the table that was put into, where that went well
-abbrev pub table_of : Result (Unit {0}) PyError → Entries → Result Entries PyError
-table_of (Ok u) made = Ok made
-table_of (Err e) made = Err e
+abbrev pub table_after : Result (Unit {0}) PyError → Entries → Result Entries PyError
+table_after (Ok u) made = Ok made
+table_after (Err e) made = Err e

@@ -46,9 +46,12 @@ abbrev mutual
   put_repr (int z) t = gives (Ok (t ++ signed_decimal z))
   put_repr (str cs) t = gives (Ok (t ++ text_repr cs))
   put_repr (bytes bs) t = gives (Ok (t ++ bytes_repr bs))
-  put_repr (tuple vs) t = put_values zero vs (t ++ codes "(") and_then λ u. gives (Ok (u ++ tuple_end vs))
-  put_repr (list vs) t = put_values zero vs (t ++ codes "[") and_then λ u. gives (Ok (u ++ codes "]"))
-  put_repr (dict es) t = put_entries zero es (t ++ codes "{") and_then λ u. gives (Ok (u ++ codes "}"))
+  put_repr (tuple vs) t =
+      put_values zero vs (t ++ codes "(") and_then λ u. gives (Ok (u ++ tuple_end vs))
+  put_repr (list vs) t =
+      put_values zero vs (t ++ codes "[") and_then λ u. gives (Ok (u ++ codes "]"))
+  put_repr (dict es) t =
+      put_entries zero es (t ++ codes "{") and_then λ u. gives (Ok (u ++ codes "}"))
   put_repr (handle h) t = asks h ReprOf none (λ a. gives (handle_after t h a))
 
   pub put_values : ℕ → Plains → List ℕ → Asking (List ℕ)
@@ -57,11 +60,16 @@ abbrev mutual
 
   pub put_entries : ℕ → Entries → List ℕ → Asking (List ℕ)
   put_entries i no_entries t = gives (Ok t)
-  put_entries i (entry k v es) t = put_repr v (t ++ comma i ++ key_repr k ++ codes ": ") and_then λ u. put_entries (suc i) es u
+  put_entries i (entry k v es) t =
+      put_repr v (t ++ comma i ++ key_repr k ++ codes ": ") and_then λ u. put_entries (suc i) es u
 
--- a value nested deeper than 200 is not printed; this is tested before a host is asked
+-- how deep values may be inside one another where they are printed
+abbrev pub greatest_depth : ℕ
+greatest_depth = 200
+
+-- a value that is nested deeper is not printed; this is tested before a host is asked
 abbrev pub unless_deep : Plain → Asking (List ℕ) → Asking (List ℕ)
-unless_deep v call = if nat_le (depth v) 200 then call else gives (Err TooDeep)
+unless_deep v call = if nat_le (depth v) greatest_depth then call else gives (Err TooDeep)
 
 abbrev pub repr_of : Plain → Asking (List ℕ)
 repr_of v = unless_deep v (put_repr v [])

@@ -81,6 +81,12 @@ pub record Translates (v : Plain) (cs : List ℕ) (old new : Seen)
       (λ u. Goes v cs [] old new result)
       (λ e. (result ≡ Err e) × (new ≡ old)))
 
+-- the errors of `translate`
+abbrev pub translate_error : PyError → Bool
+translate_error (NotSubscriptable _) = true
+translate_error (Translate _) = true
+translate_error _ = false
+
 -- what goes on with a text, or the error
 abbrev pub on_text : Result (List ℕ) PyError → (List ℕ → Result (List ℕ) PyError)
     → Result (List ℕ) PyError

@@ -1,18 +1,14 @@
-//! Whether a text begins or ends with a value, and one of its characters.
+//! Whether a text begins or ends with a value.
 
 ghost use Rattle.std.specs.Prelude.{◌≡◌};
 ghost use Rattle.py_text.specs.Window.{counted_place, window_start, window_end};
 ghost use Rattle.py_value.specs.Affix as spec;
-ghost use Rattle.py_value.specs.Asking.{Meets};
-ghost use Rattle.py_value.specs.Lookup.{index_of as index_value};
 ghost use Rattle.py_value.specs.Sides as sides;
 ghost use Rattle.py_value.specs.ValueView.{plain_of};
 
-use crate::lookup::index_of;
 use crate::value::{Value, ValueList};
 use py_base::{ClassName, PyError, PyResult};
 use py_text::PyStr;
-use std::alloc::Global;
 
 /// The side of a window at which an affix is.
 #[derive(Clone, Copy)]
@@ -112,12 +108,4 @@ impl Place {
             _ => self.text_fits(text, affix),
         }
     }
-}
-
-/// The text of the character at an index.
-pub(crate) fn char_at(alloc: Global, text: &PyStr, index: &Value) -> PyResult<PyStr>
-    ensures { Meets (spec.char_at text.now (index_value (plain_of index.now))) result }
-{
-    let c = text.getitem_by_index(index_of(index)?)?;
-    Ok(PyStr::from_char(alloc, c)?)
 }

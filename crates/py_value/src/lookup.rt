@@ -1,7 +1,7 @@
 //! The items and attributes of values: `obj[key]` and `obj.name` of the Python Language Reference,
 //! "Subscriptions" and "Attribute references".
 
-ghost use Rattle.std.specs.Prelude.{◌≡◌, true, Ok, Err};
+ghost use Rattle.std.specs.Prelude.{◌≡◌, true, is_some, Ok, Err};
 ghost use Rattle.py_value.specs.Asking.{Answers, Meets, silent};
 ghost use Rattle.py_value.specs.Lookup as spec;
 ghost use Rattle.py_value.specs.Dict.{lookup};
@@ -26,8 +26,9 @@ pub(crate) fn index_of(key: &Value) -> PyResult<i128>
 }
 
 // The key that a value is.
-fn needed_key(alloc: Global, key: &Value) -> PyResult<DictKey>
-    ensures { Meets (spec.needed_key (plain_of key.now)) result }
+fn key_of_value(alloc: Global, key: &Value) -> PyResult<DictKey>
+    ensures key { Meets (spec.key_of_value (plain_of key.now)) result }
+    ensures free { result ≡ Err PyError.NoMemory → is_some (spec.key_of (plain_of key.now)) ≡ true }
 {
     match key {
         Value::Bool(value) => Ok(DictKey::Int(PyBool::new(*value).as_int())),
@@ -75,7 +76,7 @@ fn list_item(alloc: Global, list: &ValueList, index: i128) -> PyResult<Value>
 }
 
 fn bytes_item(bytes: &PyBytes, index: i128) -> PyResult<Value>
-    ensures { Meets (spec.bytes_item bytes.now index) (plainly result) }
+    ensures { plainly result ≡ spec.bytes_item bytes.now index }
 {
     let bytes = bytes.as_bytes();
     let Some(place) = place_in(bytes.len(), index) else {
@@ -87,11 +88,18 @@ fn bytes_item(bytes: &PyBytes, index: i128) -> PyResult<Value>
     }
 }
 
+/// The text of the character at an index.
+pub(crate) fn char_at(alloc: Global, text: &PyStr, index: i128) -> PyResult<PyStr>
+    ensures { Meets (spec.char_at text.now (Ok index)) result }
+{
+    let c = text.getitem_by_index(index)?;
+    Ok(PyStr::from_char(alloc, c)?)
+}
+
 fn text_item(alloc: Global, text: &PyStr, index: i128) -> PyResult<Value>
     ensures { Meets (spec.text_item text.now index) (plainly result) }
 {
-    let c = text.getitem_by_index(index)?;
-    Ok(Value::Str(PyStr::from_char(alloc, c)?))
+    Ok(Value::Str(char_at(alloc, text, index)?))
 }
 
 fn dict_item(alloc: Global, dict: &PyDict, key: &DictKey) -> PyResult<Value>
@@ -110,7 +118,7 @@ fn handle_item<H: Host>(alloc: Global, host: &mut H, handle: u64, key: &Value) -
     if !host.has_getitem(handle) {
         return Err(PyError::NotSubscriptable(ClassName::Object));
     }
-    let name = needed_key(alloc, key)?;
+    let name = key_of_value(alloc, key)?;
     match host.get_item(handle, key) {
         Ok(Some(value)) => Ok(value),
         Ok(None) => Err(PyError::Key(name_of(alloc, &name)?)),
@@ -125,19 +133,21 @@ fn handle_item<H: Host>(alloc: Global, host: &mut H, handle: u64, key: &Value) -
 /// # Errors
 ///
 /// `NotSubscriptable` by the class of the value, then `Downcast` by that of the key, then
-/// `IndexOutOfRange`, `TupleIndex` or `Key` where nothing is there.
+/// `IndexOutOfRange`, `TupleIndex` or `Key` where nothing is there. A byte takes no memory.
 pub fn get_item<H: Host>(alloc: Global, host: &mut H, obj: &Value, key: &Value) -> PyResult<Value>
     ensures answers { Answers (spec.item (plain_of obj.now) (plain_of key.now))
         (H.seen host.old) (H.seen host.new) (plainly result) }
     ensures quiet { silent (spec.item (plain_of obj.now) (plain_of key.now)) ≡ true
         → host.new ≡ host.old }
+    ensures free { result ≡ Err PyError.NoMemory
+        → spec.item_takes_memory (plain_of obj.now) (plain_of key.now) ≡ true }
 {
     match obj {
         Value::Str(text) => text_item(alloc, text, index_of(key)?),
         Value::Bytes(bytes) => bytes_item(bytes, index_of(key)?),
         Value::Tuple(list) => list_item(alloc, list, index_of(key)?),
         Value::List(list) => list_item(alloc, list, index_of(key)?),
-        Value::Dict(dict) => dict_item(alloc, dict, &needed_key(alloc, key)?),
+        Value::Dict(dict) => dict_item(alloc, dict, &key_of_value(alloc, key)?),
         Value::Handle(handle) => handle_item(alloc, host, *handle, key),
         _ => Err(PyError::NotSubscriptable(obj.class())),
     }
@@ -161,7 +171,8 @@ fn handle_attr<H: Host>(host: &mut H, handle: u64, name: &PyStr) -> PyResult<Val
 ///
 /// # Errors
 ///
-/// `NoAttribute` where there is none. Memory runs out only where it does in the host.
+/// `NoAttribute` where there is none. Memory runs out only for a handle, and only where its host
+/// says that it may.
 pub fn get_attr<H: Host>(_alloc: Global, host: &mut H, obj: &Value, name: &PyStr) -> PyResult<Value>
     ensures answers { Answers (spec.attr (plain_of obj.now) name.now)
         (H.seen host.old) (H.seen host.new) (plainly result) }

@@ -4,7 +4,7 @@ ghost use Rattle.std.specs.Prelude.{◌≡◌, pos, chars, option_copied, IfOk, 
 ghost use Rattle.py_value.specs.Asking.{Meets};
 ghost use Rattle.py_value.specs.Dict.{put};
 ghost use Rattle.py_value.specs.Maketrans as spec;
-ghost use Rattle.py_value.specs.Maketrans.{table_of};
+ghost use Rattle.py_value.specs.Maketrans.{table_after};
 ghost use Rattle.py_value.specs.Plain.{no_entries};
 ghost use Rattle.py_value.specs.ValueView.{plain_of};
 ghost use Rattle.py_value.specs.declared.value.DictKey.TheVariants.{Int as IntKey};
@@ -91,7 +91,7 @@ fn only_char(text: &PyStr) -> PyResult<char>
 
 // Puts a value of a dictionary under its key's code point.
 fn put_keyed(table: &mut PyDict, key: DictKey, value: Value) -> PyResult<()>
-    ensures { Meets (spec.put_key key (plain_of value) table.old) (table_of result table.new) }
+    ensures { Meets (spec.put_key key (plain_of value) table.old) (table_after result table.new) }
 {
     match key {
         DictKey::Int(number) => {

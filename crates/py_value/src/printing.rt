@@ -1,8 +1,8 @@
 //! How values are printed: `str`, `repr` and `ascii` of "Built-in Functions" of the Python Library
 //! Reference.
 
-ghost use Rattle.std.specs.Prelude.{◌≡◌, []};
-ghost use Rattle.py_value.specs.Asking.{Answers};
+ghost use Rattle.std.specs.Prelude.{◌≡◌, [], true};
+ghost use Rattle.py_value.specs.Asking.{Answers, silent};
 ghost use Rattle.py_value.specs.Plain.{handle as handle_of};
 ghost use Rattle.py_value.specs.Printing as spec;
 ghost use Rattle.py_value.specs.ValueView.{plain_of};
@@ -19,15 +19,20 @@ use py_text::PyStr;
 use std::alloc::Global;
 use values::put_handle;
 
+// How deep values may be inside one another where they are printed.
+const GREATEST_DEPTH: usize = 200;
+
 /// `repr(obj)`.
 ///
 /// # Errors
 ///
 /// `TooDeep` where values are inside one another more than 200 deep, before the host is asked.
 pub fn repr_of<H: Host>(alloc: Global, host: &mut H, obj: &Value) -> PyResult<PyStr>
-    ensures { Answers (spec.repr_of (plain_of obj.now)) (H.seen host.old) (H.seen host.new) result }
+    ensures answers { Answers (spec.repr_of (plain_of obj.now))
+        (H.seen host.old) (H.seen host.new) result }
+    ensures quiet { silent (spec.repr_of (plain_of obj.now)) ≡ true → host.new ≡ host.old }
 {
-    if !obj.fits_depth(200) {
+    if !obj.fits_depth(GREATEST_DEPTH) {
         return Err(PyError::TooDeep);
     }
     let mut out = PyStr::new(alloc);
@@ -72,7 +77,9 @@ fn handle_text<H: Host>(alloc: Global, host: &mut H, handle: u64) -> PyResult<Py
 ///
 /// `TooDeep` where values are inside one another more than 200 deep, before the host is asked.
 pub fn str_of<H: Host>(alloc: Global, host: &mut H, obj: &Value) -> PyResult<PyStr>
-    ensures { Answers (spec.str_of (plain_of obj.now)) (H.seen host.old) (H.seen host.new) result }
+    ensures answers { Answers (spec.str_of (plain_of obj.now))
+        (H.seen host.old) (H.seen host.new) result }
+    ensures quiet { silent (spec.str_of (plain_of obj.now)) ≡ true → host.new ≡ host.old }
 {
     match obj {
         Value::Str(text) => Ok(text.try_clone(alloc)?),
@@ -87,8 +94,9 @@ pub fn str_of<H: Host>(alloc: Global, host: &mut H, obj: &Value) -> PyResult<PyS
 ///
 /// `TooDeep` where values are inside one another more than 200 deep, before the host is asked.
 pub fn ascii_of<H: Host>(alloc: Global, host: &mut H, obj: &Value) -> PyResult<PyStr>
-    ensures { Answers (spec.ascii_of (plain_of obj.now))
+    ensures answers { Answers (spec.ascii_of (plain_of obj.now))
         (H.seen host.old) (H.seen host.new) result }
+    ensures quiet { silent (spec.ascii_of (plain_of obj.now)) ≡ true → host.new ≡ host.old }
 {
     let text = repr_of(alloc, host, obj)?;
     escaped(alloc, text)

@@ -3,15 +3,15 @@
 ghost use Rattle.std.specs.Prelude.{◌≡◌, ℕ, List};
 ghost use Rattle.py_value.specs.Affix as spec;
 ghost use Rattle.py_value.specs.Asking.{Meets};
-ghost use Rattle.py_value.specs.Lookup.{index_of};
+ghost use Rattle.py_value.specs.Lookup.{char_at, index_of};
 ghost use Rattle.py_value.specs.Maketrans as tables;
 ghost use Rattle.py_value.specs.Translate.{Translates};
 ghost use Rattle.py_value.specs.ValueView.{plain_of};
 
-use crate::affix::{Place, Side, char_at};
+use crate::affix::{Place, Side};
 use crate::host::Host;
 use crate::value::{PyDict, Value};
-use crate::{maketrans, translate};
+use crate::{lookup, maketrans, translate};
 use py_base::{OptionalArg, PyResult};
 use py_text::PyStr;
 use std::alloc::Global;
@@ -28,7 +28,7 @@ pub trait StrValues {
     ///
     /// `Downcast` where the needle is neither an integer nor a bool, then `IndexOutOfRange`.
     fn getitem(&self, alloc: Global, needle: &Value) -> PyResult<PyStr>
-        ensures { Meets (spec.char_at (points self.now) (index_of (plain_of needle.now))) result };
+        ensures { Meets (char_at (points self.now) (index_of (plain_of needle.now))) result };
 
     /// Whether the window from `start` to `end` begins with the text `affix`, or with a text of the
     /// tuple `affix`. It takes no memory. (Python Library Reference, String Methods,
@@ -85,7 +85,7 @@ impl StrValues for PyStr {
     ghost points = { λ shown. shown };
 
     fn getitem(&self, alloc: Global, needle: &Value) -> PyResult<PyStr> {
-        char_at(alloc, self, needle)
+        lookup::char_at(alloc, self, lookup::index_of(needle)?)
     }
 
     fn starts_with_value(

@@ -7,9 +7,8 @@ use Rattle.re_tree.specs.TextView.{text_of, texts_of}
 use Rattle.re_tree.specs.Tokens.{Opening, conditional_opening}
 use Rattle.re_tree.specs.Grammar.{is_countable}
 use Rattle.re_tree.specs.Machine.{Frame, state, groups_begun, part_of, closed_state, close_frame, snoc, count_last, regex_of, finish}
-use Rattle.re_parse.specs.declared.parser.Frame.{Frame as FrameInMemory}
 use Rattle.re_parse.specs.TokenView.{opening_of}
-use Rattle.re_parse.specs.ParserView.{ended_of, last_of, frame_of, frames_onto}
+use Rattle.re_parse.specs.ParserView.{FrameInMemory, ended_of, last_of, frame_of, frames_onto}
 use Rattle.re_parse.proofs.PartLemmas.{count_at_last, no_count_at_last}
 
 pub texts_push : (rs : List TextTree) (r : TextTree) → texts_of (rs ++ r ∷ []) ≡ snoc (texts_of rs) (text_of r)
@@ -32,17 +31,17 @@ regex_more [] ps h = absurd (h refl)
 regex_more (b ∷ bs) ps h = refl
 
 -- a conditional with more than two branches
-pub more_branches : (id : GroupName) (begin : ℕ) (old front : List TextTree) (r : TextTree) (ps : PlainTexts) → old ≡ front ++ r ∷ [] → (front ≡ [] → ⊥)
-    → None ≡ part_of (conditional_opening id) begin 0 (texts_of old) ps
-more_branches id begin old [] r ps e h = absurd (h refl)
-more_branches id begin old (q ∷ []) r ps e h = ap (λ l. part_of (conditional_opening id) begin 0 (texts_of l) ps) (sym e)
-more_branches id begin old (q ∷ p ∷ front) r ps e h = ap (λ l. part_of (conditional_opening id) begin 0 (texts_of l) ps) (sym e)
+pub more_branches : (id : GroupName) (at : ℕ) (old front : List TextTree) (r : TextTree) (ps : PlainTexts) → old ≡ front ++ r ∷ [] → (front ≡ [] → ⊥)
+    → None ≡ part_of (conditional_opening id) at 0 (texts_of old) ps
+more_branches id at old [] r ps e h = absurd (h refl)
+more_branches id at old (q ∷ []) r ps e h = ap (λ l. part_of (conditional_opening id) at 0 (texts_of l) ps) (sym e)
+more_branches id at old (q ∷ p ∷ front) r ps e h = ap (λ l. part_of (conditional_opening id) at 0 (texts_of l) ps) (sym e)
 
 -- a conditional begins no group
-pub any_number : (id : GroupName) (begin number : ℕ) (bs ps : PlainTexts) → part_of (conditional_opening id) begin 0 bs ps ≡ part_of (conditional_opening id) begin number bs ps
-any_number id begin number done ps = refl
-any_number id begin number (r also done) ps = refl
-any_number id begin number (r also q also rs) ps = refl
+pub any_number : (id : GroupName) (at number : ℕ) (bs ps : PlainTexts) → part_of (conditional_opening id) at 0 bs ps ≡ part_of (conditional_opening id) at number bs ps
+any_number id at number done ps = refl
+any_number id at number (r also done) ps = refl
+any_number id at number (r also q also rs) ps = refl
 
 -- what is open in memory, with one more, which is the innermost
 pub frames_push : (fs : List FrameInMemory) (f : FrameInMemory) (outer : List Frame) → frames_onto (fs ++ f ∷ []) outer ≡ frame_of f ∷ frames_onto fs outer
@@ -51,18 +50,18 @@ frames_push (g ∷ fs) f outer = frames_push fs f (frame_of g ∷ outer)
 
 -- a closing parenthesis, where the innermost opening is the last in memory
 closed : (g : ℕ) (old front : List FrameInMemory) (f : FrameInMemory) (bs ps : PlainTexts) → old ≡ front ++ f ∷ []
-    → closed_state g (frames_onto front []) (ended_of f.around) (last_of f.around) (part_of (opening_of f.opening) f.begin f.number bs ps) ≡ close_frame g (frames_onto old []) bs ps
+    → closed_state g (frames_onto front []) (ended_of f.around) (last_of f.around) (part_of (opening_of f.opening) f.at f.number bs ps) ≡ close_frame g (frames_onto old []) bs ps
 closed g old front f bs ps e = sym (ap (λ fs. close_frame g fs bs ps) (ap (λ l. frames_onto l []) e ∙ frames_push front f []))
 
 pub closes : (g : ℕ) (old front : List FrameInMemory) (f : FrameInMemory) (bs ps around before : PlainTexts) (r : PlainText) → old ≡ front ++ f ∷ []
-    → Some r ≡ part_of (opening_of f.opening) f.begin f.number bs ps → around ≡ ended_of f.around → before ≡ snoc (last_of f.around) r
+    → Some r ≡ part_of (opening_of f.opening) f.at f.number bs ps → around ≡ ended_of f.around → before ≡ snoc (last_of f.around) r
     → Some (state g (frames_onto front []) around before) ≡ close_frame g (frames_onto old []) bs ps
 closes g old front f bs ps around before r e p a b =
     (λ i. Some (state g (frames_onto front []) (a i) (b i)))
     ∙ ap (closed_state g (frames_onto front []) (ended_of f.around) (last_of f.around)) p ∙ closed g old front f bs ps e
 
 pub closes_not : (g : ℕ) (old front : List FrameInMemory) (f : FrameInMemory) (bs ps : PlainTexts) → old ≡ front ++ f ∷ []
-    → None ≡ part_of (opening_of f.opening) f.begin f.number bs ps → None ≡ close_frame g (frames_onto old []) bs ps
+    → None ≡ part_of (opening_of f.opening) f.at f.number bs ps → None ≡ close_frame g (frames_onto old []) bs ps
 closes_not g old front f bs ps e p =
     ap (closed_state g (frames_onto front []) (ended_of f.around) (last_of f.around)) p ∙ closed g old front f bs ps e
 

@@ -1,4 +1,4 @@
--- What a loop over the digits at the front of a text has passed.
+-- What a loop over the digits that a text begins with has passed.
 use Rattle.std.proofs.Common.{◌≡◌, refl, sym, ◌∙◌, ap, ℕ, ◌+◌, ◌<◌, ◌≤◌, true, false, List, [], ◌∷◌, ◌++◌, take, drop, length, get_or, append-nil, append_assoc}
 use Rattle.std.specs.Prelude.{cond}
 use Rattle.std.proofs.lemmas.List.{take_more, drop_more, drop_all}

@@ -19,13 +19,13 @@ rank_small NotFixedWidth = omega arith
 
 -- one number for place and kind
 abbrev key : Fault → ℕ
-key a = 8 * a.begin + rank a.kind
+key a = 8 * a.at + rank a.kind
 
 by_number : (p q r s : ℕ) → r < 8 → s < 8 → (nat_lt p q || (p == q && nat_lt r s)) ≡ nat_lt (8 * p + r) (8 * q + s)
 by_number p q r s h k = grind (arith, nat_tests)
 
 before_is : (a b : Fault) → is_before a b ≡ nat_lt (key a) (key b)
-before_is a b = by_number a.begin b.begin (rank a.kind) (rank b.kind) (rank_small a.kind) (rank_small b.kind)
+before_is a b = by_number a.at b.at (rank a.kind) (rank b.kind) (rank_small a.kind) (rank_small b.kind)
 
 -- of three
 turns : (x y z : Bool) (a b c : Fault) → (x ≡ true → y ≡ true → z ≡ true) → (x ≡ false → y ≡ false → z ≡ false)
@@ -88,9 +88,9 @@ kind_of_rank _ _ e = absurd (omega (arith, e))
 
 same_key : (a b : Fault) → key a ≡ key b → a ≡ b
 same_key a b e =
-    let p : a.begin ≡ b.begin = omega (arith, e, rank_small a.kind, rank_small b.kind) in
+    let p : a.at ≡ b.at = omega (arith, e, rank_small a.kind, rank_small b.kind) in
     let k : a.kind ≡ b.kind = kind_of_rank a.kind b.kind (omega (arith, e, p)) in
-    λ i. record { begin = p i; kind = k i }
+    λ i. record { at = p i; kind = k i }
 
 swap : (x y : Bool) (a b : Fault) → is_before b a ≡ x → is_before a b ≡ y → cond x (Some b) (Some a) ≡ cond y (Some a) (Some b)
 swap true true a b f g = absurd (omega (arith, under b a f, under a b g))

@@ -1,5 +1,5 @@
 -- The names of groups, with one more, and a look-up by the bytes of a name.
-use Rattle.std.proofs.Common.{◌≡◌, refl, sym, ◌∙◌, ap, ℕ, Bool, true, false, List, [], ◌∷◌, ◌++◌, nat_eq, ◌||◌, String, Option, Some, None, cond, is_some, unwrap_or}
+use Rattle.std.proofs.Common.{◌≡◌, refl, sym, ◌∙◌, ap, ℕ, zero, suc, ◌<◌, ◌≤◌, length, slice_get, slice_index_or, arith, Bool, true, false, List, [], ◌∷◌, ◌++◌, nat_eq, ◌||◌, String, Option, Some, None, cond, is_some, unwrap_or}
 use Rattle.std.specs.String.{string_bytes}
 use Rattle.std.specs.Str.{chars, IsUtf8, bytes_eq, encode_utf8_all}
 use Rattle.std.specs.Cmp.Lexicographic.{pointwise, bytes_decides}
@@ -13,6 +13,17 @@ use Rattle.re_tree.specs.PlainText.{Names, find_name}
 use Rattle.re_tree.specs.Faults.{has_name}
 use Rattle.re_parse.specs.declared.group_names.Named.{Named}
 use Rattle.re_parse.specs.GroupNames.{names_in, number_in, number_under, number_or, AreFirstNumbers, HasAlso}
+
+-- the name and the number at a place
+pub names_none : (xs : List Named) (i : ℕ) → length xs ≤ i → slice_get (names_in xs) i ≡ None
+names_none [] i h = refl
+names_none (x ∷ xs) zero h = absurd (omega arith)
+names_none (x ∷ xs) (suc i) h = names_none xs i (omega arith)
+
+pub names_some : (xs : List Named) (i : ℕ) (x : Named) → i < length xs → x ≡ slice_index_or xs i x → slice_get (names_in xs) i ≡ Some (x.name, x.number)
+names_some [] i x h is = absurd (omega arith)
+names_some (y ∷ xs) zero x h is = ap (λ (z : Named). Some (z.name, z.number)) (sym is)
+names_some (y ∷ xs) (suc i) x h is = names_some xs i x (omega arith) is
 
 pub names_push : (xs : List Named) (x : Named) → names_in (xs ++ x ∷ []) ≡ names_in xs ++ (x.name, x.number) ∷ []
 names_push [] x = refl

@@ -15,4 +15,5 @@ pub mod PassLemmas
 pub mod PieceLemmas
 pub mod ShapeLemmas
 pub mod TokenWalkLemmas
+pub mod TreeWidthLemmas
 pub mod WalkLemmas

@@ -3,7 +3,7 @@ use Rattle.std.proofs.Common.{◌≡◌, refl, sym, ◌∙◌, ap, ℕ, ◌+◌,
 use Rattle.std.specs.Prelude.{Option, Some, None, cond}
 use Rattle.std.specs.Option.{option_map}
 use Rattle.std.proofs.lemmas.List.{take_more, drop_more, drop_all}
-use Rattle.re_tree.specs.Reading.{add_front, up_to}
+use Rattle.re_tree.specs.Reading.{add_first, up_to}
 
 abbrev Named : Type 0
 Named = Option (List ℕ × List ℕ)
@@ -15,7 +15,7 @@ nothing_before : (o : Named) → o ≡ with_before [] o
 nothing_before None = refl
 nothing_before (Some x) = refl
 
-one_before : (before : List ℕ) (c : ℕ) (o : Named) → with_before before (add_front c o) ≡ with_before (before ++ c ∷ []) o
+one_before : (before : List ℕ) (c : ℕ) (o : Named) → with_before before (add_first c o) ≡ with_before (before ++ c ∷ []) o
 one_before before c None = refl
 one_before before c (Some x) = ap (λ l. Some (l, x.1)) (sym (append_assoc before (c ∷ []) x.0))
 
@@ -34,7 +34,7 @@ one_more end text i less e h =
     record {
       is =
           h.is ∙ ap (λ l. with_before (take i text) (up_to end l)) d
-          ∙ ap (λ b. with_before (take i text) (cond b (Some ([], rest)) (add_front c (up_to end rest)))) e
+          ∙ ap (λ b. with_before (take i text) (cond b (Some ([], rest)) (add_first c (up_to end rest)))) e
           ∙ one_before (take i text) c (up_to end rest) ∙ ap (λ l. with_before l (up_to end rest)) (sym (take_more text i 0 less));
     }
 
@@ -44,7 +44,7 @@ found end text i less e h =
     let rest : List ℕ = drop (i + 1) text in
     let d : drop i text ≡ c ∷ rest = drop_more text i 0 less in
     sym (h.is ∙ ap (λ l. with_before (take i text) (up_to end l)) d
-    ∙ ap (λ b. with_before (take i text) (cond b (Some ([], rest)) (add_front c (up_to end rest)))) e
+    ∙ ap (λ b. with_before (take i text) (cond b (Some ([], rest)) (add_first c (up_to end rest)))) e
     ∙ ap (λ l. Some (l, rest)) (append-nil (take i text)))
 
 pub not_found : (end : ℕ) (text : List ℕ) (i : ℕ) → length text ≤ i → NamePassed end text i → None ≡ up_to end text

@@ -12,9 +12,8 @@ use Rattle.re_tree.specs.Faults.{is_identifier, is_past, names_at, at_opening, o
 use Rattle.re_parse.specs.declared.shape.Shape.{Shape}
 use Rattle.re_parse.specs.declared.shape.Body.{Body}
 use Rattle.re_parse.specs.declared.construct.Construct.{Construct}
-use Rattle.re_parse.specs.declared.construct.Opened.{Opened}
 use Rattle.re_parse.specs.declared.groups.Conditional.{Conditional}
-use Rattle.re_parse.specs.FirstPass.{note, no_body, construct_of, conditionals_at, numbers_at, where_of, add_shape, body_width, closed_shape, close_faults, close_with, close_pass, open_pass, verdict_at, Pass}
+use Rattle.re_parse.specs.FirstPass.{note, no_body, construct_of, conditionals_at, numbers_at, where_of, add_shape, body_width, closed_shape, close_faults, close_with, close_pass, open_pass, diagnosis_at, Opened, Pass}
 use Rattle.re_parse.specs.Groups.{conditionals_in}
 use Rattle.re_parse.specs.PassView.{onto}
 use Rattle.re_parse.proofs.FirstFaultLemmas.{note_more}
@@ -39,9 +38,9 @@ no_number ns = sym (append-nil ns)
 pub nothing_more : (o : Option Fault) (xs : List Fault) → note o xs ≡ note o (xs ++ [])
 nothing_more o xs = ap (note o) (sym (append-nil xs))
 
-pub conditionals_push : (xs : List Conditional) (x : Conditional) → conditionals_in (xs ++ x ∷ []) ≡ conditionals_in xs ++ (x.begin, x.number) ∷ []
+pub conditionals_push : (xs : List Conditional) (x : Conditional) → conditionals_in (xs ++ x ∷ []) ≡ conditionals_in xs ++ (x.at, x.number) ∷ []
 conditionals_push [] x = refl
-conditionals_push (y ∷ xs) x = ap (λ l. (y.begin, y.number) ∷ l) (conditionals_push xs x)
+conditionals_push (y ∷ xs) x = ap (λ l. (y.at, y.number) ∷ l) (conditionals_push xs x)
 
 -- what is open in memory
 pub onto_push : (fs : List Opened) (f : Opened) (outer : List Opened) → onto (fs ++ f ∷ []) outer ≡ f ∷ onto fs outer
@@ -56,44 +55,44 @@ pub onto_long : (fs : List Opened) → length (onto fs []) ≡ length fs
 onto_long fs = let h : length (onto fs []) ≡ length fs + length {A = Opened} [] = onto_length fs [] in omega (arith, h)
 
 -- nothing is said where something is open
-none_said : (p : Pass) (fs : List Opened) (f : Opened) (outer : List Opened) → verdict_at p (onto fs (f ∷ outer)) ≡ None
+none_said : (p : Pass) (fs : List Opened) (f : Opened) (outer : List Opened) → diagnosis_at p (onto fs (f ∷ outer)) ≡ None
 none_said p [] f outer = refl
 none_said p (g ∷ fs) f outer = none_said p fs g (f ∷ outer)
 
-pub still_open : (p : Pass) (fs : List Opened) → (fs ≡ [] → ⊥) → None ≡ verdict_at p (onto fs [])
+pub still_open : (p : Pass) (fs : List Opened) → (fs ≡ [] → ⊥) → None ≡ diagnosis_at p (onto fs [])
 still_open p [] h = absurd (h refl)
 still_open p (f ∷ fs) h = sym (none_said p fs f [])
 
 -- an opening
-pub opens_as : (old : Pass) (begin number groups : ℕ) (o : Opening) (names : Names) (conditionals : List (ℕ × ℕ)) (outer front : List Opened) (construct : Construct) (body : Body) (first : Option Fault)
-    → number ≡ old.groups + 1 → groups ≡ old.groups + groups_begun o → names ≡ old.names ++ names_at number o → conditionals ≡ old.conditionals ++ conditionals_at o begin
-    → outer ≡ front ++ (record { begin = begin; construct = construct; number = number; around = old.body }) ∷ [] → onto front [] ≡ old.outer
-    → construct ≡ construct_of o → body ≡ no_body → first ≡ note old.first (at_opening (where_of old) begin number o)
-    → ◌≡◌ {A = Pass} (record { groups = groups; outer = onto outer []; body = body; names = names; closed = old.closed; conditionals = conditionals; first = first }) (open_pass old begin o)
-opens_as old begin number groups o names conditionals outer front construct body first m g n c e h k b f = λ i. record {
+pub opens_as : (old : Pass) (at number groups : ℕ) (o : Opening) (names : Names) (conditionals : List (ℕ × ℕ)) (outer front : List Opened) (construct : Construct) (body : Body) (first : Option Fault)
+    → number ≡ old.groups + 1 → groups ≡ old.groups + groups_begun o → names ≡ old.names ++ names_at number o → conditionals ≡ old.conditionals ++ conditionals_at o at
+    → outer ≡ front ++ (record { at = at; opening = construct; number = number; around = old.body }) ∷ [] → onto front [] ≡ old.outer
+    → construct ≡ construct_of o → body ≡ no_body → first ≡ note old.first (at_opening (where_of old) at number o)
+    → ◌≡◌ {A = Pass} (record { groups = groups; outer = onto outer []; body = body; names = names; closed = old.closed; conditionals = conditionals; first = first }) (open_pass old at o)
+opens_as old at number groups o names conditionals outer front construct body first m g n c e h k b f = λ i. record {
   groups = g i;
-  outer = (ap (λ l. onto l []) e ∙ onto_push front (record { begin = begin; construct = construct; number = number; around = old.body }) []
-      ∙ (λ j. (record { begin = begin; construct = k j; number = m j; around = old.body }) ∷ h j)) i;
+  outer = (ap (λ l. onto l []) e ∙ onto_push front (record { at = at; opening = construct; number = number; around = old.body }) []
+      ∙ (λ j. (record { at = at; opening = k j; number = m j; around = old.body }) ∷ h j)) i;
   body = b i;
   names = (n ∙ ap (λ l. old.names ++ names_at l o) m) i;
   closed = old.closed;
   conditionals = c i;
-  first = (f ∙ ap (λ l. note old.first (at_opening (where_of old) begin l o)) m) i;
+  first = (f ∙ ap (λ l. note old.first (at_opening (where_of old) at l o)) m) i;
 }
 
 -- a closing parenthesis, where the innermost opening is the last in memory
-closes_as : (p : Pass) (old front : List Opened) (f : Opened) → old ≡ front ++ f ∷ [] → close_pass p (onto old []) ≡ close_with p f (onto front []) (closed_shape f.construct p.body)
+closes_as : (p : Pass) (old front : List Opened) (f : Opened) → old ≡ front ++ f ∷ [] → close_pass p (onto old []) ≡ close_with p f (onto front []) (closed_shape f.opening p.body)
 closes_as p old front f e = ap (close_pass p) (ap (λ l. onto l []) e ∙ onto_push front f [])
 
 pub closes : (p : Pass) (old front : List Opened) (f : Opened) (shape : Shape) (body : Body) (closed : List ℕ) (first : Option Fault)
-    → old ≡ front ++ f ∷ [] → Some shape ≡ closed_shape f.construct p.body → body ≡ add_shape f.around shape
-    → closed ≡ p.closed ++ numbers_at f.construct f.number → first ≡ note p.first (close_faults f.begin f.construct (body_width p.body))
+    → old ≡ front ++ f ∷ [] → Some shape ≡ closed_shape f.opening p.body → body ≡ add_shape f.around shape
+    → closed ≡ p.closed ++ numbers_at f.opening f.number → first ≡ note p.first (close_faults f.at f.opening (body_width p.body))
     → ◌≡◌ {A = Option Pass} (Some (record { groups = p.groups; outer = onto front []; body = body; names = p.names; closed = closed; conditionals = p.conditionals; first = first })) (close_pass p (onto old []))
 closes p old front f shape body closed first e s b c k =
     (λ i. Some (record { groups = p.groups; outer = onto front []; body = b i; names = p.names; closed = c i; conditionals = p.conditionals; first = k i }))
     ∙ ap (close_with p f (onto front [])) s ∙ sym (closes_as p old front f e)
 
-pub closes_not : (p : Pass) (old front : List Opened) (f : Opened) → old ≡ front ++ f ∷ [] → None ≡ closed_shape f.construct p.body → None ≡ close_pass p (onto old [])
+pub closes_not : (p : Pass) (old front : List Opened) (f : Opened) → old ≡ front ++ f ∷ [] → None ≡ closed_shape f.opening p.body → None ≡ close_pass p (onto old [])
 closes_not p old front f e s = ap (close_with p f (onto front [])) s ∙ sym (closes_as p old front f e)
 
 -- the conditionals before a place are noted
@@ -104,8 +103,8 @@ drop_at : (cs : List Conditional) (i : ℕ) (x : Conditional) → i < length cs 
 drop_at cs i x h e = rw add-one (drop-cons cs i x h ∙ ap (λ z. z ∷ drop (suc i) cs) (sym e))
 
 pub noted_more : (count : ℕ) (first found next : Option Fault) (cs : List Conditional) (i : ℕ) (x : Conditional) (wrong : Bool) → i < length cs → x ≡ get_or cs i x
-    → Noted count first cs i found → wrong ≡ is_past count x.number → next ≡ note found (only_if wrong x.begin BadReference) → Noted count first cs (i + 1) next
+    → Noted count first cs i found → wrong ≡ is_past count x.number → next ≡ note found (only_if wrong x.at BadReference) → Noted count first cs (i + 1) next
 noted_more count first found next cs i x wrong k e h w n =
     h ∙ ap (λ l. note found (conditional_faults count (conditionals_in l))) (drop_at cs i x k e)
-    ∙ sym (note_more found (only_if (is_past count x.number) x.begin BadReference) (conditional_faults count (conditionals_in (drop (i + 1) cs))))
-    ∙ ap (λ o. note o (conditional_faults count (conditionals_in (drop (i + 1) cs)))) (sym (n ∙ ap (λ b. note found (only_if b x.begin BadReference)) w))
+    ∙ sym (note_more found (only_if (is_past count x.number) x.at BadReference) (conditional_faults count (conditionals_in (drop (i + 1) cs))))
+    ∙ ap (λ o. note o (conditional_faults count (conditionals_in (drop (i + 1) cs)))) (sym (n ∙ ap (λ b. note found (only_if b x.at BadReference)) w))

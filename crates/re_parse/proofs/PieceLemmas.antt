@@ -3,7 +3,6 @@ use Rattle.std.proofs.Common.{◌≡◌, refl, sym, ◌∙◌, ap, subst, ℕ, �
 use Rattle.std.specs.Prelude.{Option, Some, None}
 use Rattle.re_tree.specs.declared.fault.Fault.{Fault}
 use Rattle.re_parse.specs.declared.shape.Shape.{Shape}
-use Rattle.re_parse.specs.declared.construct.Opened.{Opened}
 use Rattle.re_tree.specs.declared.tree.CountMode.{CountMode}
 use Rattle.re_tree.specs.PlainText.{PlainText, PlainTexts, sequence, counted, done, ◌also◌, names_of, all_names}
 use Rattle.re_tree.specs.Tokens.{Opening, count_token}
@@ -11,7 +10,7 @@ use Rattle.re_tree.specs.Grammar.{is_countable}
 use Rattle.re_tree.specs.Widths.{times, width}
 use Rattle.re_tree.specs.Machine.{snoc, Frame, frame, State, state, groups_begun, count_last, counted_state}
 use Rattle.re_tree.specs.Faults.{Where, outermost, numbers_of, all_numbers, names_at, inside, after_all, at_opening, at_count, conditionals, all_conditionals, faults, faults_in_turn, first_of}
-use Rattle.re_parse.specs.FirstPass.{no_body, add_shape, end_branch, counted_if, counted_shape, construct_of, Pass, where_of, note, conditionals_at, add_piece, count_last_piece, open_pass, pass_step}
+use Rattle.re_parse.specs.FirstPass.{Opened, no_body, add_shape, end_branch, counted_if, counted_shape, construct_of, Pass, where_of, note, conditionals_at, add_piece, count_last_piece, open_pass, pass_step}
 use Rattle.re_parse.proofs.FirstFaultLemmas.{first_append}
 use Rattle.re_parse.proofs.PartLemmas.{count_at_last, no_count_at_last}
 use Rattle.re_parse.proofs.ShapeLemmas.{shape_of, body_of, last_snoc, add_is, end_is, names_snoc, numbers_snoc, choices_snoc, turn_snoc, found_in}
@@ -19,19 +18,19 @@ use Rattle.re_parse.proofs.ShapeLemmas.{shape_of, body_of, last_snoc, add_is, en
 -- where the inside of the innermost opening begins, and what was found before it
 abbrev pub where_in : List Frame → Where
 where_in [] = outermost
-where_in (frame begin opening number bs ps ∷ outer) = inside (after_all (after_all (where_in outer) bs) ps) number opening
+where_in (frame at opening number bs ps ∷ outer) = inside (after_all (after_all (where_in outer) bs) ps) number opening
 
 abbrev pub found_before : List Frame → List Fault
 found_before [] = []
-found_before (frame begin opening number bs ps ∷ outer) =
-    (found_before outer ++ found_in (where_in outer) bs ps) ++ at_opening (after_all (after_all (where_in outer) bs) ps) begin number opening
+found_before (frame at opening number bs ps ∷ outer) =
+    (found_before outer ++ found_in (where_in outer) bs ps) ++ at_opening (after_all (after_all (where_in outer) bs) ps) at number opening
 
 abbrev pub choices_before : List Frame → List (ℕ × ℕ)
 choices_before [] = []
-choices_before (frame begin opening number bs ps ∷ outer) = (choices_before outer ++ (all_conditionals bs ++ all_conditionals ps)) ++ conditionals_at opening begin
+choices_before (frame at opening number bs ps ∷ outer) = (choices_before outer ++ (all_conditionals bs ++ all_conditionals ps)) ++ conditionals_at opening at
 
 abbrev pub open_by : Frame → Opened
-open_by (frame begin opening number bs ps) = record { begin = begin; construct = construct_of opening; number = number; around = body_of bs ps }
+open_by (frame at opening number bs ps) = record { at = at; opening = construct_of opening; number = number; around = body_of bs ps }
 
 abbrev pub opens_of : List Frame → List Opened
 opens_of [] = []
@@ -51,7 +50,7 @@ pass_of (state g outer bs ps) = record {
 
 pub depth_is : (outer : List Frame) → length (opens_of outer) ≡ (where_in outer).depth
 depth_is [] = refl
-depth_is (frame begin opening number bs ps ∷ outer) = let h : length (opens_of outer) ≡ (where_in outer).depth = depth_is outer in omega (arith, h)
+depth_is (frame at opening number bs ps ∷ outer) = let h : length (opens_of outer) ≡ (where_in outer).depth = depth_is outer in omega (arith, h)
 
 pub where_is : (g : ℕ) (outer : List Frame) (bs ps : PlainTexts) → where_of (pass_of (state g outer bs ps)) ≡ after_all (after_all (where_in outer) bs) ps
 where_is g outer bs ps = λ i. record {
@@ -130,56 +129,56 @@ ends_of (p also ps) = one_before p ps (ends_of ps)
 
 -- a count
 abbrev pub Counts : ℕ → List Frame → PlainTexts → ℕ → ℕ → Option ℕ → CountMode → PlainTexts → Type 0
-Counts g outer bs begin least most mode ps =
-    pass_step (pass_of (state g outer bs ps)) (count_token begin least most mode) ≡ in_some pass_of (counted_state g outer bs (count_last (counted begin least most mode) ps))
+Counts g outer bs at least most mode ps =
+    pass_step (pass_of (state g outer bs ps)) (count_token at least most mode) ≡ in_some pass_of (counted_state g outer bs (count_last (counted at least most mode) ps))
 
-pub counted_pass : (g : ℕ) (outer : List Frame) (bs front : PlainTexts) (r : PlainText) (begin least : ℕ) (most : Option ℕ) (mode : CountMode)
-    → count_last_piece (pass_of (state g outer bs (snoc front r))) (at_count begin least most) (Some (record { countable = false; width = times least most (width r) }))
-    ≡ Some (pass_of (state g outer bs (snoc front (counted begin least most mode r))))
-counted_pass g outer bs front r begin least most mode =
-    ap (λ p. count_last_piece p (at_count begin least most) (Some (record { countable = false; width = times least most (width r) }))) (pushed g outer bs front r)
+pub counted_pass : (g : ℕ) (outer : List Frame) (bs front : PlainTexts) (r : PlainText) (at least : ℕ) (most : Option ℕ) (mode : CountMode)
+    → count_last_piece (pass_of (state g outer bs (snoc front r))) (at_count at least most) (Some (record { countable = false; width = times least most (width r) }))
+    ≡ Some (pass_of (state g outer bs (snoc front (counted at least most mode r))))
+counted_pass g outer bs front r at least most mode =
+    ap (λ p. count_last_piece p (at_count at least most) (Some (record { countable = false; width = times least most (width r) }))) (pushed g outer bs front r)
     ∙ (λ i. Some (record {
       groups = g;
       outer = opens_of outer;
-      body = add_shape (body_of bs front) (shape_of (counted begin least most mode r));
+      body = add_shape (body_of bs front) (shape_of (counted at least most mode r));
       names = (((where_in outer).names ++ all_names bs) ++ all_names front) ++ names_of r;
       closed = (((where_in outer).closed ++ all_numbers bs) ++ all_numbers front) ++ numbers_of r;
       conditionals = (choices_before outer ++ (all_conditionals bs ++ all_conditionals front)) ++ conditionals r;
-      first = (sym (first_append ((found_before outer ++ found_in (where_in outer) bs front) ++ faults (after_all (after_all (where_in outer) bs) front) r) (at_count begin least most))
-          ∙ ap first_of (append_assoc (found_before outer ++ found_in (where_in outer) bs front) (faults (after_all (after_all (where_in outer) bs) front) r) (at_count begin least most))) i;
+      first = (sym (first_append ((found_before outer ++ found_in (where_in outer) bs front) ++ faults (after_all (after_all (where_in outer) bs) front) r) (at_count at least most))
+          ∙ ap first_of (append_assoc (found_before outer ++ found_in (where_in outer) bs front) (faults (after_all (after_all (where_in outer) bs) front) r) (at_count at least most))) i;
     }))
-    ∙ ap Some (sym (pushed g outer bs front (counted begin least most mode r)))
+    ∙ ap Some (sym (pushed g outer bs front (counted at least most mode r)))
 
-pub count_at : (g : ℕ) (outer : List Frame) (bs front : PlainTexts) (r : PlainText) (begin least : ℕ) (most : Option ℕ) (mode : CountMode) (b : Bool) → is_countable r ≡ b
-    → Counts g outer bs begin least most mode (snoc front r)
-count_at g outer bs front r begin least most mode true e =
-    ap (count_last_piece (pass_of (state g outer bs (snoc front r))) (at_count begin least most))
+pub count_at : (g : ℕ) (outer : List Frame) (bs front : PlainTexts) (r : PlainText) (at least : ℕ) (most : Option ℕ) (mode : CountMode) (b : Bool) → is_countable r ≡ b
+    → Counts g outer bs at least most mode (snoc front r)
+count_at g outer bs front r at least most mode true e =
+    ap (count_last_piece (pass_of (state g outer bs (snoc front r))) (at_count at least most))
     (ap (counted_shape least most) (last_snoc front r) ∙ ap (λ t. counted_if t least most (width r)) e)
-    ∙ counted_pass g outer bs front r begin least most mode
-    ∙ ap (λ o. in_some pass_of (counted_state g outer bs o)) (sym (count_at_last (counted begin least most mode) front r e))
-count_at g outer bs front r begin least most mode false e =
-    ap (count_last_piece (pass_of (state g outer bs (snoc front r))) (at_count begin least most))
+    ∙ counted_pass g outer bs front r at least most mode
+    ∙ ap (λ o. in_some pass_of (counted_state g outer bs o)) (sym (count_at_last (counted at least most mode) front r e))
+count_at g outer bs front r at least most mode false e =
+    ap (count_last_piece (pass_of (state g outer bs (snoc front r))) (at_count at least most))
     (ap (counted_shape least most) (last_snoc front r) ∙ ap (λ t. counted_if t least most (width r)) e)
-    ∙ ap (λ o. in_some pass_of (counted_state g outer bs o)) (sym (no_count_at_last (counted begin least most mode) front r e))
+    ∙ ap (λ o. in_some pass_of (counted_state g outer bs o)) (sym (no_count_at_last (counted at least most mode) front r e))
 
-pub count_step : (g : ℕ) (outer : List Frame) (bs ps : PlainTexts) (begin least : ℕ) (most : Option ℕ) (mode : CountMode) → Ends ps → Counts g outer bs begin least most mode ps
-count_step g outer bs ps begin least most mode (nothing e) = subst (λ q. Counts g outer bs begin least most mode q) (sym e) refl
-count_step g outer bs ps begin least most mode (last_is front r e) =
-    subst (λ q. Counts g outer bs begin least most mode q) (sym e) (count_at g outer bs front r begin least most mode (is_countable r) refl)
+pub count_step : (g : ℕ) (outer : List Frame) (bs ps : PlainTexts) (at least : ℕ) (most : Option ℕ) (mode : CountMode) → Ends ps → Counts g outer bs at least most mode ps
+count_step g outer bs ps at least most mode (nothing e) = subst (λ q. Counts g outer bs at least most mode q) (sym e) refl
+count_step g outer bs ps at least most mode (last_is front r e) =
+    subst (λ q. Counts g outer bs at least most mode q) (sym e) (count_at g outer bs front r at least most mode (is_countable r) refl)
 
 -- an opening
-pub open_step : (g : ℕ) (outer : List Frame) (bs ps : PlainTexts) (begin : ℕ) (opening : Opening)
-    → open_pass (pass_of (state g outer bs ps)) begin opening ≡ pass_of (state (g + groups_begun opening) (frame begin opening (g + 1) bs ps ∷ outer) done done)
-open_step g outer bs ps begin opening = λ i. record {
+pub open_step : (g : ℕ) (outer : List Frame) (bs ps : PlainTexts) (at : ℕ) (opening : Opening)
+    → open_pass (pass_of (state g outer bs ps)) at opening ≡ pass_of (state (g + groups_begun opening) (frame at opening (g + 1) bs ps ∷ outer) done done)
+open_step g outer bs ps at opening = λ i. record {
   groups = g + groups_begun opening;
-  outer = open_by (frame begin opening (g + 1) bs ps) ∷ opens_of outer;
+  outer = open_by (frame at opening (g + 1) bs ps) ∷ opens_of outer;
   body = no_body;
   names = (sym (append-nil (((((where_in outer).names ++ all_names bs) ++ all_names ps) ++ names_at (g + 1) opening) ++ []) ∙ append-nil ((((where_in outer).names ++ all_names bs) ++ all_names ps) ++ names_at (g + 1) opening))) i;
   closed = (sym (append-nil ((((where_in outer).closed ++ all_numbers bs) ++ all_numbers ps) ++ []) ∙ append-nil (((where_in outer).closed ++ all_numbers bs) ++ all_numbers ps))) i;
-  conditionals = sym (append-nil ((choices_before outer ++ (all_conditionals bs ++ all_conditionals ps)) ++ conditionals_at opening begin)) i;
-  first = (ap (λ w. note (first_of (found_before outer ++ found_in (where_in outer) bs ps)) (at_opening w begin (g + 1) opening)) (where_is g outer bs ps)
-      ∙ sym (first_append (found_before outer ++ found_in (where_in outer) bs ps) (at_opening (after_all (after_all (where_in outer) bs) ps) begin (g + 1) opening))
-      ∙ ap first_of (sym (append-nil ((found_before outer ++ found_in (where_in outer) bs ps) ++ at_opening (after_all (after_all (where_in outer) bs) ps) begin (g + 1) opening)))) i;
+  conditionals = sym (append-nil ((choices_before outer ++ (all_conditionals bs ++ all_conditionals ps)) ++ conditionals_at opening at)) i;
+  first = (ap (λ w. note (first_of (found_before outer ++ found_in (where_in outer) bs ps)) (at_opening w at (g + 1) opening)) (where_is g outer bs ps)
+      ∙ sym (first_append (found_before outer ++ found_in (where_in outer) bs ps) (at_opening (after_all (after_all (where_in outer) bs) ps) at (g + 1) opening))
+      ∙ ap first_of (sym (append-nil ((found_before outer ++ found_in (where_in outer) bs ps) ++ at_opening (after_all (after_all (where_in outer) bs) ps) at (g + 1) opening)))) i;
 }
 
 -- a bar

@@ -4,7 +4,7 @@ use Rattle.py_base.specs.Reading.{MeetsUnless}
 use Rattle.re_tree.specs.declared.fault.Fault.{Fault}
 use Rattle.re_tree.specs.declared.fault.FaultKind.{FaultKind}
 use Rattle.re_tree.specs.declared.fault.FaultKind.TheVariants.{TooDeep, TooManyGroups, BadName, BadCount, BadReference, NotFixedWidth}
-use Rattle.re_tree.specs.Faults.{Verdict, verdict_of}
+use Rattle.re_tree.specs.Faults.{Diagnosis, diagnosis_of}
 use Rattle.re_tree.specs.Grammar.{Flags}
 use Rattle.re_tree.specs.Machine.{read_tree}
 use Rattle.re_parse.specs.declared.error.TheConstants.{MAX_CHARACTERS}
@@ -13,18 +13,18 @@ use Rattle.re_parse.specs.declared.error.TextError.TheVariants.{NoMemory, TooLon
 
 -- the error of a fault of this kind at this place
 abbrev pub error_at : ℕ → FaultKind → TextError
-error_at begin TooDeep = TooDeepAt begin
-error_at begin TooManyGroups = TooManyGroupsAt begin
-error_at begin BadName = BadNameAt begin
-error_at begin BadCount = BadCountAt begin
-error_at begin BadReference = BadReferenceAt begin
-error_at begin NotFixedWidth = NotFixedWidthAt begin
+error_at at TooDeep = TooDeepAt at
+error_at at TooManyGroups = TooManyGroupsAt at
+error_at at BadName = BadNameAt at
+error_at at BadCount = BadCountAt at
+error_at at BadReference = BadReferenceAt at
+error_at at NotFixedWidth = NotFixedWidthAt at
 
 abbrev pub error_of : Fault → TextError
-error_of f = error_at f.begin f.kind
+error_of f = error_at f.at f.kind
 
 -- what is answered where this is found in a pattern, without its tree
-abbrev pub told : Verdict → Result (Unit {0}) TextError
+abbrev pub told : Diagnosis → Result (Unit {0}) TextError
 told None = Err NotInGrammar
 told (Some None) = Ok tt
 told (Some (Some f)) = Err (error_of f)
@@ -34,7 +34,7 @@ told (Some (Some f)) = Err (error_of f)
 abbrev pub answer_of : Flags → List ℕ → Result (Unit {0}) TextError
 answer_of flags text =
     if nat_lt MAX_CHARACTERS (length text) then Err TooLong
-    else told (verdict_of (read_tree flags text))
+    else told (diagnosis_of (read_tree flags text))
 
 abbrev pub no_memory : TextError → Bool
 no_memory NoMemory = true

@@ -8,14 +8,15 @@ use Rattle.re_parse.specs.declared.shape.Shape.{Shape}
 use Rattle.re_parse.specs.declared.shape.Body.{Body}
 use Rattle.re_parse.specs.declared.construct.Construct.{Construct}
 use Rattle.re_parse.specs.declared.construct.Construct.TheVariants.{Capture, Group, Lookahead, Lookbehind, Conditional}
-use Rattle.re_parse.specs.declared.construct.Opened.{Opened}
+use Rattle.re_parse.specs.declared.frame.Frame.{Frame}
 use Rattle.re_tree.specs.PlainText.{Names}
 use Rattle.re_tree.specs.Tokens.{Opening, capturing, non_capturing, atomic_opening, look_opening, conditional_opening, Token, unit_token, anchor_token, reference_token, count_token, open_token, bar, close}
 use Rattle.re_tree.specs.Grammar.{Flags}
 use Rattle.re_tree.specs.Reading.{all_tokens}
 use Rattle.re_tree.specs.Widths.{plus, common, times}
 use Rattle.re_tree.specs.Machine.{groups_begun}
-use Rattle.re_tree.specs.Faults.{Verdict, Where, names_at, the_first, first_of, at_reference, at_opening, at_count, only_if, is_wide, conditional_of, conditional_faults}
+use Rattle.re_tree.specs.Faults.{Diagnosis, Where, names_at, the_first, first_of, at_reference, at_opening, at_count, only_if, is_wide, conditional_of, conditional_faults}
+use Rattle.re_parse.specs.Walk.{after_tokens}
 
 -- the earlier of two faults
 abbrev pub earlier : Option Fault → Option Fault → Option Fault
@@ -82,8 +83,12 @@ closed_shape Lookbehind b = Some (record { countable = false; width = Some 0 })
 closed_shape Conditional b = conditional_shape b.ended b
 
 abbrev pub close_faults : ℕ → Construct → Option ℕ → List Fault
-close_faults begin Lookbehind w = only_if (is_wide w) begin NotFixedWidth
-close_faults begin _ w = []
+close_faults at Lookbehind w = only_if (is_wide w) at NotFixedWidth
+close_faults at _ w = []
+
+-- what was open around an opening, and the number of a group that it begins
+abbrev pub Opened : Type 0
+Opened = Frame Construct Body
 
 pub record Pass : Type 0 where
   pub groups : ℕ
@@ -108,8 +113,8 @@ numbers_at Capture number = number ∷ []
 numbers_at _ number = []
 
 abbrev pub conditionals_at : Opening → ℕ → List (ℕ × ℕ)
-conditionals_at (conditional_opening id) begin = conditional_of begin id
-conditionals_at _ begin = []
+conditionals_at (conditional_opening id) at = conditional_of at id
+conditionals_at _ at = []
 
 abbrev pub add_piece : Pass → Shape → Pass
 add_piece p s = record p { body = add_shape p.body s }
@@ -119,23 +124,15 @@ count_last_piece p found None = None
 count_last_piece p found (Some s) =
     Some (record p { body = record { ended = p.body.ended; joined = p.body.joined; before = p.body.before; last = Some s }; first = note p.first found })
 
--- the groups, names and conditionals with what an opening begins
-abbrev pub kept : Pass → ℕ → ℕ → Opening → Pass
-kept p begin number opening = record p { groups = p.groups + groups_begun opening; names = p.names ++ names_at number opening; conditionals = p.conditionals ++ conditionals_at opening begin }
-
--- the groups that have ended with one that ends
-abbrev pub ended_group : Pass → Construct → ℕ → Pass
-ended_group p construct number = record p { closed = p.closed ++ numbers_at construct number }
-
 abbrev pub open_pass : Pass → ℕ → Opening → Pass
-open_pass p begin opening = record {
+open_pass p at opening = record {
   groups = p.groups + groups_begun opening;
-  outer = record { begin = begin; construct = construct_of opening; number = p.groups + 1; around = p.body } ∷ p.outer;
+  outer = record { at = at; opening = construct_of opening; number = p.groups + 1; around = p.body } ∷ p.outer;
   body = no_body;
   names = p.names ++ names_at (p.groups + 1) opening;
   closed = p.closed;
-  conditionals = p.conditionals ++ conditionals_at opening begin;
-  first = note p.first (at_opening (where_of p) begin (p.groups + 1) opening);
+  conditionals = p.conditionals ++ conditionals_at opening at;
+  first = note p.first (at_opening (where_of p) at (p.groups + 1) opening);
 }
 
 abbrev pub close_with : Pass → Opened → List Opened → Option Shape → Option Pass
@@ -145,45 +142,36 @@ close_with p f outer (Some s) = Some (record {
   outer = outer;
   body = add_shape f.around s;
   names = p.names;
-  closed = p.closed ++ numbers_at f.construct f.number;
+  closed = p.closed ++ numbers_at f.opening f.number;
   conditionals = p.conditionals;
-  first = note p.first (close_faults f.begin f.construct (body_width p.body));
+  first = note p.first (close_faults f.at f.opening (body_width p.body));
 })
 
 abbrev pub close_pass : Pass → List Opened → Option Pass
 close_pass p [] = None
-close_pass p (f ∷ outer) = close_with p f outer (closed_shape f.construct p.body)
+close_pass p (f ∷ outer) = close_with p f outer (closed_shape f.opening p.body)
 
 abbrev pub pass_step : Pass → Token → Option Pass
 pass_step p (unit_token test) = Some (add_piece p (record { countable = true; width = Some 1 }))
 pass_step p (anchor_token k) = Some (add_piece p (record { countable = false; width = Some 0 }))
-pass_step p (reference_token begin id) =
-    Some (record (add_piece p (record { countable = true; width = None })) { first = note p.first (at_reference (where_of p) begin id) })
-pass_step p (count_token begin least most mode) = count_last_piece p (at_count begin least most) (counted_shape least most p.body.last)
-pass_step p (open_token begin opening) = Some (open_pass p begin opening)
+pass_step p (reference_token at id) =
+    Some (record (add_piece p (record { countable = true; width = None })) { first = note p.first (at_reference (where_of p) at id) })
+pass_step p (count_token at least most mode) = count_last_piece p (at_count at least most) (counted_shape least most p.body.last)
+pass_step p (open_token at opening) = Some (open_pass p at opening)
 pass_step p bar = Some (record p { body = end_branch p.body })
 pass_step p close = close_pass p p.outer
 
-abbrev pub pass_step_on : Option Pass → Token → Option Pass
-pass_step_on None t = None
-pass_step_on (Some p) t = pass_step p t
-
-abbrev pub pass_on : Option Pass → List Token → Option Pass
-pass_on o [] = o
-pass_on o (t ∷ ts) = pass_on (pass_step_on o t) ts
-
 -- what the pass says of a pattern: nothing where it is in no tree, and else its first fault
-abbrev pub verdict_at : Pass → List Opened → Verdict
-verdict_at p [] = Some (note p.first (conditional_faults p.groups p.conditionals))
-verdict_at p (f ∷ outer) = None
+abbrev pub diagnosis_at : Pass → List Opened → Diagnosis
+diagnosis_at p [] = Some (note p.first (conditional_faults p.groups p.conditionals))
+diagnosis_at p (f ∷ outer) = None
 
-abbrev pub pass_end : Option Pass → Verdict
+abbrev pub pass_end : Option Pass → Diagnosis
 pass_end None = None
-pass_end (Some p) = verdict_at p p.outer
+pass_end (Some p) = diagnosis_at p p.outer
 
-abbrev pub pass_over : Option (List Token) → Verdict
-pass_over None = None
-pass_over (Some ts) = pass_end (pass_on (Some pass_start) ts)
+abbrev pub pass_over : Option (List Token) → Diagnosis
+pass_over o = pass_end (after_tokens pass_step pass_start o)
 
-abbrev pub first_pass : Flags → List ℕ → Verdict
+abbrev pub first_pass : Flags → List ℕ → Diagnosis
 first_pass flags text = pass_over (all_tokens flags (length text) (length text) text)

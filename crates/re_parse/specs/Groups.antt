@@ -5,4 +5,4 @@ use Rattle.re_parse.specs.declared.groups.Conditional.{Conditional}
 -- the conditionals by number: their places and numbers
 abbrev pub conditionals_in : List Conditional → List (ℕ × ℕ)
 conditionals_in [] = []
-conditionals_in (x ∷ xs) = (x.begin, x.number) ∷ conditionals_in xs
+conditionals_in (x ∷ xs) = (x.at, x.number) ∷ conditionals_in xs

@@ -10,3 +10,4 @@ pub mod Laws
 pub mod ParserView
 pub mod PassView
 pub mod TokenView
+pub mod Walk

@@ -1,8 +1,7 @@
 -- The first pass in memory.
 use Rattle.std.specs.Prelude.{List, [], ◌∷◌}
-use Rattle.re_parse.specs.declared.construct.Opened.{Opened}
 use Rattle.re_parse.specs.declared.pass.Pass.{Pass as PassInMemory}
-use Rattle.re_parse.specs.FirstPass.{Pass}
+use Rattle.re_parse.specs.FirstPass.{Opened, Pass}
 use Rattle.re_parse.specs.Groups.{conditionals_in}
 
 -- the innermost opening is the last in memory, and the first of the pass

@@ -34,9 +34,9 @@ opening_of (Conditional id) = conditional_opening (group_named id)
 abbrev pub token_of : TokenInMemory → Token
 token_of (UnitToken test) = unit_token (test_of test)
 token_of (AnchorToken k) = anchor_token k
-token_of (Reference begin id) = reference_token begin (group_named id)
-token_of (Count begin least most mode) = count_token begin least most mode
-token_of (Open begin opening) = open_token begin (opening_of opening)
+token_of (Reference at id) = reference_token at (group_named id)
+token_of (Count at least most mode) = count_token at least most mode
+token_of (Open at opening) = open_token at (opening_of opening)
 token_of Bar = bar
 token_of Close = close
 
@@ -60,7 +60,7 @@ Reads want result = IfOk result (λ r. found_of r ≡ want)
 
 -- a count by a sign, whose bounds these digits write
 abbrev pub counted_by : ℕ → List ℕ → List ℕ → List ℕ → Found
-counted_by begin least most rest = Some (with_mode begin (value least) (greatest_of most) rest)
+counted_by at least most rest = Some (with_mode at (value least) (greatest_of most) rest)
 
 -- the bounds after a comma
 abbrev pub bounds_after : List ℕ → List ℕ → Bounds

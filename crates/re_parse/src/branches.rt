@@ -13,7 +13,6 @@ use crate::number::Number;
 use re_tree::{CountMode, GroupId, TextBody, TextParts, TextTree};
 use std::alloc::{AllocError, Global};
 
-// A count at a place.
 #[derive(Debug, Drop)]
 pub(crate) struct Count {
     pub(crate) at: usize,
@@ -29,7 +28,6 @@ pub(crate) struct Branches {
     last: Vec<TextTree>,
 }
 
-// Parts with one more.
 #[tactic(auto, using(crate::proofs::BranchLemmas::texts_push))]
 fn push(parts: Vec<TextTree>, part: TextTree) -> Result<Vec<TextTree>, AllocError>
     ensures { IfOk result (λ more.
@@ -77,7 +75,6 @@ fn small(number: &Number) -> Result<u32, AllocError>
     }
 }
 
-// A greatest number as a tree keeps it.
 fn small_most(most: &Option<Number>) -> Result<Option<u32>, AllocError>
     ensures { IfOk result (λ n. n ≡ most.now) }
 {
@@ -87,7 +84,6 @@ fn small_most(most: &Option<Number>) -> Result<Option<u32>, AllocError>
     }
 }
 
-// A part with a count.
 fn counted_part(alloc: Global, count: &Count, part: TextTree) -> Result<TextTree, AllocError>
     ensures { IfOk result (λ made. text_of made ≡
         counted count.now.at count.now.least count.now.most count.now.mode (text_of part)) }
@@ -111,14 +107,14 @@ fn count_last_part(
         (counted count.now.at count.now.least count.now.most count.now.mode)
         (texts_of parts.items)) }
 {
-    let mut front = parts;
-    let Some(last) = front.pop() else {
+    let mut before = parts;
+    let Some(last) = before.pop() else {
         return Ok(None);
     };
     if !is_countable(&last) {
         return Ok(None);
     }
-    Ok(Some(push(front, counted_part(alloc, count, last)?)?))
+    Ok(Some(push(before, counted_part(alloc, count, last)?)?))
 }
 
 impl Branches {
@@ -133,7 +129,6 @@ impl Branches {
         }
     }
 
-    // With one piece more.
     pub(crate) fn add(self, piece: TextTree) -> Result<Branches, AllocError>
         ensures ended { IfOk result (λ more. ended_of more ≡ ended_of self) }
         ensures last { IfOk result (λ more. last_of more ≡ snoc (last_of self) (text_of piece)) }

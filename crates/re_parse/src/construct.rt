@@ -19,15 +19,6 @@ pub(crate) enum Construct {
     Conditional,
 }
 
-// What was open around an opening, and the number of a group that it begins.
-#[derive(Debug, Drop)]
-pub(crate) struct Opened {
-    pub(crate) begin: usize,
-    pub(crate) construct: Construct,
-    pub(crate) number: usize,
-    pub(crate) around: Body,
-}
-
 impl Construct {
     // What an opening with this body is.
     pub(crate) fn close(self, alloc: Global, body: Body) -> Result<Option<Shape>, AllocError>
@@ -49,7 +40,7 @@ impl Construct {
     }
 }
 
-// What a lookaround is.
+// A lookaround passes over nothing, and has no count.
 pub(crate) fn look_shape() -> Shape
     ensures { result ≡ record { countable = false; width = Some 0 } }
 {
@@ -59,7 +50,6 @@ pub(crate) fn look_shape() -> Shape
     }
 }
 
-// What an opening begins.
 pub(crate) fn construct_of(opening: &Opening) -> Construct
     ensures { result ≡ spec.construct_of (opening_of opening.now) }
 {

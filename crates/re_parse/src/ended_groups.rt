@@ -40,7 +40,6 @@ fn extended(ended: Vec<bool>, count: usize) -> Result<Vec<bool>, AllocError>
     Ok(longer)
 }
 
-// With one number more.
 #[tactic(auto, using(crate::proofs::EndedGroupLemmas::also_set))]
 fn with_number(ended: Vec<bool>, number: usize) -> Result<Vec<bool>, AllocError>
     ensures { IfOk result (λ longer. SayAlso number ended.items longer.items) }
@@ -65,7 +64,6 @@ fn is_true_at(ended: &[bool], number: &Number) -> bool
 }
 
 impl EndedGroups {
-    // None.
     pub(crate) fn new(alloc: Global) -> EndedGroups
         ensures { result ≡ [] }
     {
@@ -75,7 +73,6 @@ impl EndedGroups {
         }
     }
 
-    // With one more.
     pub(crate) fn push(self, number: usize) -> Result<EndedGroups, AllocError>
         ensures { IfOk result (λ groups. groups ≡ self ++ number ∷ []) }
     {

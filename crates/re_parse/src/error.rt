@@ -61,11 +61,10 @@ impl<T: Drop> From<AllocFailed<T>> for TextError {
     }
 }
 
-// The error of a fault.
 pub(crate) fn error_of(fault: Fault) -> TextError
     ensures { result ≡ spec.error_of fault }
 {
-    let at = fault.begin;
+    let at = fault.at;
     match fault.kind {
         FaultKind::TooDeep => TextError::TooDeep(at),
         FaultKind::TooManyGroups => TextError::TooManyGroups(at),

@@ -7,7 +7,6 @@ ghost use Rattle.re_parse.specs.FirstPass.{note};
 
 use re_tree::{Fault, FaultKind};
 
-// The place of a kind in the order of kinds.
 fn rank(kind: FaultKind) -> u8
     ensures { result ≡ spec.rank kind }
 {
@@ -21,27 +20,22 @@ fn rank(kind: FaultKind) -> u8
     }
 }
 
-// Whether one comes before another.
+// A place that is less comes first, and at one place the kind.
 fn is_before(a: Fault, b: Fault) -> bool
     ensures { result ≡ spec.is_before a b }
 {
-    a.begin < b.begin || (a.begin == b.begin && rank(a.kind) < rank(b.kind))
+    a.at < b.at || (a.at == b.at && rank(a.kind) < rank(b.kind))
 }
 
 // The first fault, with one that may be there.
 #[tactic(auto, using(crate::proofs::FirstFaultLemmas::nothing_noted))]
-pub(crate) fn note(
-    first: Option<Fault>,
-    wrong: bool,
-    begin: usize,
-    kind: FaultKind,
-) -> Option<Fault>
-    ensures { result ≡ note first (only_if wrong begin kind) }
+pub(crate) fn note(first: Option<Fault>, wrong: bool, at: usize, kind: FaultKind) -> Option<Fault>
+    ensures { result ≡ note first (only_if wrong at kind) }
 {
     if !wrong {
         return first;
     }
-    let fault = Fault { begin, kind };
+    let fault = Fault { at, kind };
     match first {
         None => Some(fault),
         Some(a) => {

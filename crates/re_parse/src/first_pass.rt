@@ -6,8 +6,7 @@ ghost use Rattle.re_parse.specs.FirstPass.{first_pass};
 
 use crate::error::{MAX_CHARACTERS, TextError, error_of};
 use crate::pass::Pass;
-use crate::reading::next_token;
-use crate::token::Lexed;
+use crate::walk::after_tokens;
 use re_tree::{Fault, TextFlags};
 use std::alloc::{AllocError, Global};
 
@@ -20,20 +19,10 @@ fn pass_over(
 ) -> Result<Option<Option<Fault>>, AllocError>
     ensures { IfOk result (λ found. found ≡ first_pass flags text.now) }
 {
-    let mut pass = Pass::new(alloc);
-    let mut rest = text;
-    'tokens: while !rest.is_empty() {
-        let Lexed::Token(token, after) = next_token(alloc, flags, text.len() - rest.len(), rest)?
-        else {
-            return Ok(None);
-        };
-        let Some(next) = pass.step(alloc, token)? else {
-            return Ok(None);
-        };
-        pass = next;
-        rest = after;
+    match after_tokens(alloc, flags, text, Pass::new(alloc))? {
+        None => Ok(None),
+        Some(pass) => Ok(pass.finish()),
     }
-    Ok(pass.finish())
 }
 
 // Whether a pattern is answered, and else the error that is.

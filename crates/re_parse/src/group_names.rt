@@ -1,6 +1,6 @@
 //! The names of the groups of a pattern.
 
-ghost use Rattle.std.specs.Prelude.{◌≡◌, ◌++◌, ◌∷◌, [], None, IfOk};
+ghost use Rattle.std.specs.Prelude.{◌≡◌, ◌++◌, ◌∷◌, [], None, Some, slice_get, IfOk, MatchOption};
 ghost use Rattle.re_tree.specs.Faults.{has_name};
 ghost use Rattle.re_tree.specs.PlainText.{find_name};
 ghost use Rattle.re_parse.specs.GroupNames.{number_in, number_under, HasAlso};
@@ -10,17 +10,16 @@ use py_text::PyStr;
 use std::alloc::{AllocError, Global};
 use std::marker::Model;
 
-// A group with a name.
 #[derive(Debug, Drop)]
 pub(crate) struct Named {
     name: PyStr,
     number: usize,
 }
 
-// The names of groups with their numbers, in the order of the pattern. A look-up hashes the name
-// once.
+/// The names of groups with their numbers, in the order of the pattern. A look-up hashes the name
+/// once.
 #[derive(Drop)]
-pub(crate) struct GroupNames {
+pub struct GroupNames {
     order: Vec<Named>,
     numbers: IndexMap<String, usize>,
 }
@@ -80,8 +79,8 @@ fn with_name(
 }
 
 impl GroupNames {
-    // None.
-    pub(crate) fn new(alloc: Global) -> GroupNames
+    /// No name. It takes no memory.
+    pub fn new(alloc: Global) -> GroupNames
         ensures { result ≡ [] }
     {
         GroupNames {
@@ -107,8 +106,8 @@ impl GroupNames {
         }
     }
 
-    // The number of the first group of a name, or 0 where there is none.
-    pub(crate) fn find(&self, name: &PyStr) -> usize
+    /// The number of the first group of a name, or 0 where there is none.
+    pub fn find(&self, name: &PyStr) -> usize
         ensures { result ≡ find_name self.now name.now }
     {
         match self.number(name) {
@@ -117,14 +116,21 @@ impl GroupNames {
         }
     }
 
-    // With one more.
+    /// The name and the number at a place, from 0 on.
+    #[tactic(auto, using(crate::proofs::GroupNameLemmas::names_none, crate::proofs::GroupNameLemmas::names_some))]
+    pub fn get(&self, i: usize) -> Option<(&PyStr, usize)>
+        ensures { MatchOption result (slice_get self.now i ≡ None)
+            (λ named. slice_get self.now i ≡ Some (named.0.now, named.1)) }
+    {
+        match self.order.get(i) {
+            None => None,
+            Some(named) => Some((&named.name, named.number)),
+        }
+    }
+
+    /// With one name more.
     #[tactic(auto, using(crate::proofs::GroupNameLemmas::names_push))]
-    pub(crate) fn push(
-        self,
-        alloc: Global,
-        name: PyStr,
-        number: usize,
-    ) -> Result<GroupNames, AllocError>
+    pub fn push(self, alloc: Global, name: PyStr, number: usize) -> Result<GroupNames, AllocError>
         ensures { IfOk result (λ names. names ≡ self ++ (name, number) ∷ []) }
     {
         let numbers = with_name(alloc, self.numbers, &name, number)?;

@@ -17,10 +17,10 @@ use py_text::PyStr;
 use re_tree::{Fault, FaultKind};
 use std::alloc::{AllocError, Global};
 
-// A conditional by number, at a place.
+// A conditional that names its group by number. That is tested at the end of the pattern.
 #[derive(Debug, Drop)]
 pub(crate) struct Conditional {
-    begin: usize,
+    at: usize,
     number: Number,
 }
 
@@ -50,13 +50,12 @@ fn note_each(count: usize, conditionals: &[Conditional], first: Option<Fault>) -
     let mut found = first;
     for conditional in conditionals {
         let wrong = is_past(count, &conditional.number);
-        found = note(found, wrong, conditional.begin, FaultKind::BadReference);
+        found = note(found, wrong, conditional.at, FaultKind::BadReference);
     }
     found
 }
 
 impl Groups {
-    // None.
     pub(crate) fn new(alloc: Global) -> Groups
         ensures count { result.count ≡ 0 }
         ensures names { result.names ≡ [] }
@@ -95,16 +94,15 @@ impl Groups {
         }
     }
 
-    // With a conditional by number.
     #[tactic(auto, using(crate::proofs::PassCodeLemmas::conditionals_push))]
-    fn conditional(self, begin: usize, number: Number) -> Result<Groups, AllocError>
+    fn conditional(self, at: usize, number: Number) -> Result<Groups, AllocError>
         ensures count { IfOk result (λ groups. groups.count ≡ self.count) }
         ensures names { IfOk result (λ groups. groups.names ≡ self.names) }
         ensures conditionals { IfOk result (λ groups. conditionals_in groups.conditionals.items ≡
-            conditionals_in self.conditionals.items ++ (begin, number) ∷ []) }
+            conditionals_in self.conditionals.items ++ (at, number) ∷ []) }
     {
         let mut conditionals = self.conditionals;
-        conditionals.push(Conditional { begin, number })?;
+        conditionals.push(Conditional { at, number })?;
         Ok(Groups {
             conditionals,
             ..self
@@ -116,7 +114,7 @@ impl Groups {
     pub(crate) fn open(
         self,
         alloc: Global,
-        begin: usize,
+        at: usize,
         number: usize,
         opening: Opening,
     ) -> Result<Groups, AllocError>
@@ -126,11 +124,11 @@ impl Groups {
         ensures names { IfOk result (λ groups.
             groups.names ≡ self.names ++ names_at number (opening_of opening)) }
         ensures conditionals { IfOk result (λ groups. conditionals_in groups.conditionals.items ≡
-            conditionals_in self.conditionals.items ++ conditionals_at (opening_of opening) begin) }
+            conditionals_in self.conditionals.items ++ conditionals_at (opening_of opening) at) }
     {
         match opening {
             Opening::Capturing(name) => self.capture(alloc, number, name),
-            Opening::Conditional(GroupName::Number(number)) => self.conditional(begin, number),
+            Opening::Conditional(GroupName::Number(number)) => self.conditional(at, number),
             Opening::Conditional(GroupName::Name(_)) => Ok(self),
             Opening::NonCapturing => Ok(self),
             Opening::Atomic => Ok(self),

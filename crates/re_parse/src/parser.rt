@@ -11,25 +11,18 @@ ghost use Rattle.re_parse.specs.ParserView.{ended_of, last_of, frames_onto, stat
 ghost use Rattle.re_parse.specs.TokenView.{group_named, opening_of, token_of};
 
 use crate::branches::{Branches, Count};
+use crate::frame::Frame;
 use crate::parts::{group_id, part};
 use crate::token::{GroupName, Opening, Token};
+use crate::walk::Walk;
 use re_tree::TextTree;
 use std::alloc::{AllocError, Global};
 
-// What was open around an opening, and the number of a group that it begins.
-#[derive(Debug, Drop)]
-pub(crate) struct Frame {
-    begin: usize,
-    opening: Opening,
-    number: usize,
-    around: Branches,
-}
-
 // The groups so far, what is open, the innermost last, and what is read inside that.
-#[derive(Debug, Drop)]
+#[derive(Drop)]
 pub(crate) struct Parser {
     groups: usize,
-    outer: Vec<Frame>,
+    outer: Vec<Frame<Opening, Branches>>,
     inside: Branches,
 }
 
@@ -71,7 +64,6 @@ impl Parser {
         }))
     }
 
-    // With a count.
     fn count(self, alloc: Global, count: Count) -> Result<Option<Parser>, AllocError>
         ensures { IfOk result (λ next. option_map state_of next ≡ step (state_of self)
             (count_token count.at count.least count.most count.mode)) }
@@ -82,7 +74,6 @@ impl Parser {
         }
     }
 
-    // With a bar.
     fn split(self, alloc: Global) -> Result<Option<Parser>, AllocError>
         ensures { IfOk result (λ next. option_map state_of next ≡ step (state_of self) bar) }
     {
@@ -92,15 +83,9 @@ impl Parser {
         }))
     }
 
-    // With an opening.
-    fn open(
-        self,
-        alloc: Global,
-        begin: usize,
-        opening: Opening,
-    ) -> Result<Option<Parser>, AllocError>
+    fn open(self, alloc: Global, at: usize, opening: Opening) -> Result<Option<Parser>, AllocError>
         ensures { IfOk result (λ next. option_map state_of next ≡
-            step (state_of self) (open_token begin (opening_of opening))) }
+            step (state_of self) (open_token at (opening_of opening))) }
     {
         let Some(number) = self.groups.checked_add(1) else {
             return Err(AllocError);
@@ -108,7 +93,7 @@ impl Parser {
         let groups = self.groups + groups_begun(&opening);
         let mut outer = self.outer;
         outer.push(Frame {
-            begin,
+            at,
             opening,
             number,
             around: self.inside,
@@ -120,7 +105,6 @@ impl Parser {
         }))
     }
 
-    // With a closing parenthesis.
     fn close(self, alloc: Global) -> Result<Option<Parser>, AllocError>
         ensures { IfOk result (λ next. option_map state_of next ≡ step (state_of self) close) }
     {
@@ -128,7 +112,7 @@ impl Parser {
         let Some(frame) = outer.pop() else {
             return Ok(None);
         };
-        let made = part(alloc, frame.opening, frame.begin, frame.number, self.inside)?;
+        let made = part(alloc, frame.opening, frame.at, frame.number, self.inside)?;
         let Some(closed) = made else {
             return Ok(None);
         };
@@ -140,7 +124,6 @@ impl Parser {
         }))
     }
 
-    // With a back reference.
     fn refer(self, at: usize, id: GroupName) -> Result<Option<Parser>, AllocError>
         ensures { IfOk result (λ next. option_map state_of next ≡
             step (state_of self) (reference_token at (group_named id))) }
@@ -151,11 +134,29 @@ impl Parser {
         })
     }
 
-    // With the next token.
-    pub(crate) fn step(self, alloc: Global, token: Token) -> Result<Option<Parser>, AllocError>
-        ensures { IfOk result (λ next. option_map state_of next ≡
-            step (state_of self) (token_of token)) }
+    // The tree, where nothing is open.
+    pub(crate) fn finish(self) -> Result<Option<TextTree>, AllocError>
+        ensures { IfOk result (λ tree. option_map text_of tree ≡
+            machine.finish (Some (state_of self))) }
     {
+        if !self.outer.is_empty() {
+            return Ok(None);
+        }
+        Ok(Some(self.inside.into_tree()?))
+    }
+}
+
+impl Walk for Parser {
+    ghost use Rattle.re_tree.specs.Machine.{State, step};
+    ghost use Rattle.re_parse.specs.ParserView.{state_of};
+
+    ghost Seen = { State };
+
+    ghost seen = { state_of };
+
+    ghost next = { step };
+
+    fn step(self, alloc: Global, token: Token) -> Result<Option<Parser>, AllocError> {
         match token {
             Token::Unit(test) => self.add(TextTree::Unit(test)),
             Token::Anchor(anchor) => self.add(TextTree::Place(anchor)),
@@ -171,20 +172,9 @@ impl Parser {
                     },
                 )
             }
-            Token::Open(begin, opening) => self.open(alloc, begin, opening),
+            Token::Open(at, opening) => self.open(alloc, at, opening),
             Token::Bar => self.split(alloc),
             Token::Close => self.close(alloc),
         }
-    }
-
-    // The tree, where nothing is open.
-    pub(crate) fn finish(self) -> Result<Option<TextTree>, AllocError>
-        ensures { IfOk result (λ tree. option_map text_of tree ≡
-            machine.finish (Some (state_of self))) }
-    {
-        if !self.outer.is_empty() {
-            return Ok(None);
-        }
-        Ok(Some(self.inside.into_tree()?))
     }
 }

@@ -10,8 +10,7 @@ ghost use Rattle.re_parse.specs.Answers.{Meets, answer_of, emptied};
 use crate::error::{MAX_CHARACTERS, TextError};
 use crate::first_pass::check_text;
 use crate::parser::Parser;
-use crate::reading::next_token;
-use crate::token::Lexed;
+use crate::walk::after_tokens;
 use py_text::PyStr;
 use re_tree::{TextFlags, TextTree};
 use std::alloc::{AllocError, Global};
@@ -20,20 +19,10 @@ use std::alloc::{AllocError, Global};
 fn read(alloc: Global, flags: TextFlags, text: &[char]) -> Result<Option<TextTree>, AllocError>
     ensures { IfOk result (λ tree. option_map text_of tree ≡ read_tree flags text.now) }
 {
-    let mut parser = Parser::new(alloc);
-    let mut rest = text;
-    'tokens: while !rest.is_empty() {
-        let Lexed::Token(token, after) = next_token(alloc, flags, text.len() - rest.len(), rest)?
-        else {
-            return Ok(None);
-        };
-        let Some(next) = parser.step(alloc, token)? else {
-            return Ok(None);
-        };
-        parser = next;
-        rest = after;
+    match after_tokens(alloc, flags, text, Parser::new(alloc))? {
+        None => Ok(None),
+        Some(parser) => parser.finish(),
     }
-    parser.finish()
 }
 
 // The tree of a pattern by its characters. The first pass finds what is wrong, so that the second

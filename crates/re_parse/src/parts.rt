@@ -48,7 +48,6 @@ fn capture(
     }))
 }
 
-// A lookaround.
 fn look(
     alloc: Global,
     at: usize,
@@ -78,7 +77,6 @@ fn plain(alloc: Global, at: usize, inside: Branches) -> Result<Option<TextTree>,
     }))
 }
 
-// An atomic group.
 fn atomic(alloc: Global, at: usize, inside: Branches) -> Result<Option<TextTree>, AllocError>
     ensures { IfOk result (λ made. option_map text_of made ≡
         Some (atomic_text at (regex_of (ended_of inside) (last_of inside)))) }
@@ -96,7 +94,6 @@ fn into_body(alloc: Global, inside: Branches) -> Result<TextBody, AllocError>
     TextBody::new(alloc, inside.into_tree()?)
 }
 
-// A conditional.
 #[tactic(auto, using(crate::proofs::BranchLemmas::any_number))]
 fn conditional(
     alloc: Global,

@@ -12,14 +12,16 @@ ghost use Rattle.re_parse.specs.TokenView.{group_named, opening_of, token_of};
 mod ending;
 mod noting;
 
-use crate::construct::{Opened, construct_of, look_shape};
+use crate::construct::{Construct, construct_of, look_shape};
 use crate::ended_groups::EndedGroups;
 use crate::first_fault::note;
+use crate::frame::Frame;
 use crate::groups::Groups;
 use crate::number::Number;
 use crate::pass::ending::{Closed, end, end_group};
 use crate::shape::{Body, Shape, counted, is_bad_count};
 use crate::token::{GroupName, Opening, Token};
+use crate::walk::Walk;
 use crate::width::Width;
 use re_tree::{Fault, FaultKind};
 use std::alloc::{AllocError, Global};
@@ -30,7 +32,7 @@ pub(crate) struct Pass {
     groups: Groups,
     ended: EndedGroups,
     // What is open, the innermost last.
-    outer: Vec<Opened>,
+    outer: Vec<Frame<Construct, Body>>,
     body: Body,
     first: Option<Fault>,
 }
@@ -49,7 +51,6 @@ impl Pass {
         }
     }
 
-    // With one piece more.
     fn add(self, alloc: Global, shape: Shape) -> Result<Option<Pass>, AllocError>
         ensures { IfOk result (λ next. option_map pass_in next ≡
             Some (add_piece (pass_in self) shape)) }
@@ -60,12 +61,11 @@ impl Pass {
         }))
     }
 
-    // With a back reference.
-    fn refer(self, alloc: Global, begin: usize, id: GroupName) -> Result<Option<Pass>, AllocError>
+    fn refer(self, alloc: Global, at: usize, id: GroupName) -> Result<Option<Pass>, AllocError>
         ensures { IfOk result (λ next. option_map pass_in next ≡
-            pass_step (pass_in self) (reference_token begin (group_named id))) }
+            pass_step (pass_in self) (reference_token at (group_named id))) }
     {
-        let first = self.note_reference(begin, &id);
+        let first = self.note_reference(at, &id);
         let shape = Shape {
             countable: true,
             width: None,
@@ -77,16 +77,15 @@ impl Pass {
         }))
     }
 
-    // With a count.
     fn count(
         self,
         alloc: Global,
-        begin: usize,
+        at: usize,
         least: Number,
         most: Option<Number>,
     ) -> Result<Option<Pass>, AllocError>
         ensures { IfOk result (λ next. option_map pass_in next ≡ count_last_piece (pass_in self)
-            (at_count begin least most) (counted_shape least most self.body.last)) }
+            (at_count at least most) (counted_shape least most self.body.last)) }
     {
         let wrong = is_bad_count(&least, &most);
         let Pass {
@@ -116,11 +115,10 @@ impl Pass {
             ended,
             outer,
             body,
-            first: note(first, wrong, begin, FaultKind::BadCount),
+            first: note(first, wrong, at, FaultKind::BadCount),
         }))
     }
 
-    // With a bar.
     fn split(self, alloc: Global) -> Result<Option<Pass>, AllocError>
         ensures { IfOk result (λ next. option_map pass_in next ≡ pass_step (pass_in self) bar) }
     {
@@ -130,23 +128,22 @@ impl Pass {
         }))
     }
 
-    // With an opening.
-    fn open(self, alloc: Global, begin: usize, opening: Opening) -> Result<Option<Pass>, AllocError>
+    fn open(self, alloc: Global, at: usize, opening: Opening) -> Result<Option<Pass>, AllocError>
         ensures { IfOk result (λ next. option_map pass_in next ≡
-            Some (open_pass (pass_in self) begin (opening_of opening))) }
+            Some (open_pass (pass_in self) at (opening_of opening))) }
     {
         let Some(number) = self.groups.count.checked_add(1) else {
             return Err(AllocError);
         };
-        let first = self.note_opening(begin, number, &opening);
+        let first = self.note_opening(at, number, &opening);
         let mut outer = self.outer;
-        outer.push(Opened {
-            begin,
-            construct: construct_of(&opening),
+        outer.push(Frame {
+            at,
+            opening: construct_of(&opening),
             number,
             around: self.body,
         })?;
-        let groups = self.groups.open(alloc, begin, number, opening)?;
+        let groups = self.groups.open(alloc, at, number, opening)?;
         Ok(Some(Pass {
             groups,
             ended: self.ended,
@@ -156,22 +153,21 @@ impl Pass {
         }))
     }
 
-    // With a closing parenthesis.
     fn close(self, alloc: Global) -> Result<Option<Pass>, AllocError>
         ensures { IfOk result (λ next. option_map pass_in next ≡
             close_pass (pass_in self) (onto self.outer.items [])) }
     {
         let mut outer = self.outer;
-        let Some(opened) = outer.pop() else {
+        let Some(frame) = outer.pop() else {
             return Ok(None);
         };
-        let closed = end(alloc, opened.construct, opened.begin, self.body, self.first)?;
+        let closed = end(alloc, frame.opening, frame.at, self.body, self.first)?;
         let Closed { shape, first } = closed;
         let Some(shape) = shape else {
             return Ok(None);
         };
-        let ended = end_group(self.ended, opened.construct, opened.number)?;
-        let body = opened.around.add(alloc, shape)?;
+        let ended = end_group(self.ended, frame.opening, frame.number)?;
+        let body = frame.around.add(alloc, shape)?;
         Ok(Some(Pass {
             groups: self.groups,
             ended,
@@ -179,22 +175,6 @@ impl Pass {
             body,
             first,
         }))
-    }
-
-    // With the next token.
-    pub(crate) fn step(self, alloc: Global, token: Token) -> Result<Option<Pass>, AllocError>
-        ensures { IfOk result (λ next. option_map pass_in next ≡
-            pass_step (pass_in self) (token_of token)) }
-    {
-        match token {
-            Token::Unit(_) => self.add(alloc, unit_shape()),
-            Token::Anchor(_) => self.add(alloc, look_shape()),
-            Token::Reference(begin, id) => self.refer(alloc, begin, id),
-            Token::Count(begin, least, most, _) => self.count(alloc, begin, least, most),
-            Token::Open(begin, opening) => self.open(alloc, begin, opening),
-            Token::Bar => self.split(alloc),
-            Token::Close => self.close(alloc),
-        }
     }
 
     // What is found at the end: nothing where something is open, and else the first fault.
@@ -209,7 +189,29 @@ impl Pass {
     }
 }
 
-// What one unit is.
+impl Walk for Pass {
+    ghost use Rattle.re_parse.specs.FirstPass.{Pass, pass_step};
+    ghost use Rattle.re_parse.specs.PassView.{pass_in};
+
+    ghost Seen = { Pass };
+
+    ghost seen = { pass_in };
+
+    ghost next = { pass_step };
+
+    fn step(self, alloc: Global, token: Token) -> Result<Option<Pass>, AllocError> {
+        match token {
+            Token::Unit(_) => self.add(alloc, unit_shape()),
+            Token::Anchor(_) => self.add(alloc, look_shape()),
+            Token::Reference(at, id) => self.refer(alloc, at, id),
+            Token::Count(at, least, most, _) => self.count(alloc, at, least, most),
+            Token::Open(at, opening) => self.open(alloc, at, opening),
+            Token::Bar => self.split(alloc),
+            Token::Close => self.close(alloc),
+        }
+    }
+}
+
 fn unit_shape() -> Shape
     ensures { result ≡ record { countable = true; width = Some 1 } }
 {

@@ -1,5 +1,5 @@
-//! The token at the front of a pattern. There is one function for each construct, named as it is,
-//! and none calls itself.
+//! The first token of what is left of a pattern. There is one function for each construct, named as
+//! it is, and none calls itself.
 
 ghost use Rattle.std.specs.Prelude.{◌≡◌, IfOk};
 ghost use Rattle.py_base.specs.Reading.{find};
@@ -27,7 +27,7 @@ use re_tree::anchors::{AT_BEGINNING, AT_BEGINNING_LINE, AT_END, AT_END_LINE};
 use re_tree::{TextFlags, UnitTest};
 use std::alloc::{AllocError, Global};
 
-/// A token, where the grammar has one at the front of the text, and what is left after it.
+/// A token, where the grammar has one that the text begins with, and what is left after it.
 pub(crate) type Found<'t> = Result<Option<(Token, &'t [char])>, AllocError>;
 
 // What a dot is.
@@ -49,39 +49,39 @@ fn line_anchor(flags: TextFlags, whole: u32, each: u32) -> Token
 }
 
 // The token that begins with this character.
-fn sign(alloc: Global, flags: TextFlags, begin: usize, c: char, rest: &[char]) -> Found
-    ensures { Reads (spec.sign_token (find signs c) flags begin c rest.now) result }
+fn sign(alloc: Global, flags: TextFlags, at: usize, c: char, rest: &[char]) -> Found
+    ensures { Reads (spec.sign_token (find signs c) flags at c rest.now) result }
 {
     match c {
-        '\\' => escape(alloc, flags, begin, rest),
+        '\\' => escape(alloc, flags, at, rest),
         '.' => Ok(Some((Token::Unit(dot(flags)), rest))),
         '^' => Ok(Some((line_anchor(flags, AT_BEGINNING, AT_BEGINNING_LINE), rest))),
         '$' => Ok(Some((line_anchor(flags, AT_END, AT_END_LINE), rest))),
-        '*' => sign_count(alloc, begin, &[], &[], rest),
-        '+' => sign_count(alloc, begin, &['1'], &[], rest),
-        '?' => sign_count(alloc, begin, &[], &['1'], rest),
-        '{' => brace(alloc, begin, rest),
+        '*' => sign_count(alloc, at, &[], &[], rest),
+        '+' => sign_count(alloc, at, &['1'], &[], rest),
+        '?' => sign_count(alloc, at, &[], &['1'], rest),
+        '{' => brace(alloc, at, rest),
         '[' => bracket(alloc, flags, rest),
-        '(' => opening(alloc, begin, rest),
+        '(' => opening(alloc, at, rest),
         ')' => Ok(Some((Token::Close, rest))),
         '|' => Ok(Some((Token::Bar, rest))),
         _ => Ok(Some((Token::Unit(UnitTest::Literal(c)), rest))),
     }
 }
 
-/// The token at the front of what is left of a pattern, whose first character is at the place
-/// `begin` of the whole.
+/// The first token of what is left of a pattern, whose first character is at the place `at` of the
+/// whole.
 pub fn next_token(
     alloc: Global,
     flags: TextFlags,
-    begin: usize,
+    at: usize,
     text: &[char],
 ) -> Result<Lexed, AllocError>
-    ensures { IfOk result (λ next. lexed_of next ≡ spec.next_token flags begin text.now) }
+    ensures { IfOk result (λ next. lexed_of next ≡ spec.next_token flags at text.now) }
 {
     match text {
         [] => Ok(Lexed::End),
-        [c, rest @ ..] => match sign(alloc, flags, begin, *c, rest)? {
+        [c, rest @ ..] => match sign(alloc, flags, at, *c, rest)? {
             None => Ok(Lexed::NoToken),
             Some((token, after)) => Ok(Lexed::Token(token, after)),
         },

@@ -39,7 +39,7 @@ pub(crate) struct Body {
 }
 
 // The width of two parts, one after the other.
-fn plus(
+pub(crate) fn plus(
     alloc: Global,
     first: Option<Width>,
     second: Option<Width>,
@@ -56,7 +56,7 @@ fn plus(
 }
 
 // The one width of both.
-fn common(
+pub(crate) fn common(
     alloc: Global,
     one: Option<Width>,
     other: Option<Width>,
@@ -135,7 +135,6 @@ fn are_bad_bounds(least: &Number, most: &Number) -> bool
 }
 
 impl Ended {
-    // One more.
     fn next(self) -> Ended
         ensures { result ≡ spec.next self }
     {
@@ -147,7 +146,6 @@ impl Ended {
     }
 }
 
-// The width of the pieces.
 fn pieces_width(
     alloc: Global,
     before: Option<Width>,
@@ -207,7 +205,6 @@ impl Body {
         }
     }
 
-    // With one piece more.
     pub(crate) fn add(self, alloc: Global, shape: Shape) -> Result<Body, AllocError>
         ensures { IfOk result (λ body. body ≡ spec.add_shape self shape) }
     {

@@ -1,7 +1,7 @@
 -- The words of a text's tree are its code.
-use Rattle.std.proofs.Common.{◌≡◌, refl, sym, ◌∙◌, ap, subst, ℕ, ◌+◌, ◌≤◌, List, [], ◌∷◌, ◌++◌, length}
-use Rattle.std.specs.Prelude.{Option, Some, None, Result, Ok, Err, IfOk}
-use Rattle.sre_code.specs.Spelling.{spell, Spells, Fits}
+use Rattle.std.proofs.Common.{◌≡◌, ◌∙◌, ap, ℕ, ◌≤◌, List, [], ◌∷◌, ◌++◌}
+use Rattle.std.specs.Prelude.{None}
+use Rattle.sre_code.specs.Spelling.{spell}
 use Rattle.re_tree.specs.PlainText.{PlainText, Names, names_of, captures}
 use Rattle.re_tree.specs.Grammar.{IsRegex}
 use Rattle.re_text.specs.Trees.{tree_of_text}

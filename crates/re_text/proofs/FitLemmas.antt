@@ -1,11 +1,10 @@
 -- The tree of a text that fits has a spelling.
-use Rattle.std.proofs.Common.{◌≡◌, refl, sym, ◌∙◌, ap, subst, ℕ, zero, suc, ◌+◌, ◌*◌, ◌≤◌, ◌<◌, Bool, true, false, List, arith}
+use Rattle.std.proofs.Common.{◌≡◌, refl, ℕ, ◌+◌, ◌*◌, ◌≤◌, true, arith}
 use Rattle.std.specs.Prelude.{Option, Some, None, max}
-use Rattle.sre_code.specs.PlainTree.{PlainNode, PlainTree, PlainTrees, nothing, ◌then◌, only, ◌or◌, depth, node_depth, trees_depth, is_unit_node}
+use Rattle.sre_code.specs.PlainTree.{PlainTree, nothing, ◌then◌, depth, node_depth, trees_depth, is_unit_node}
 use Rattle.sre_code.specs.Spelling.{node_fits, tree_fits, alternatives_fit, wide_fits, Fits}
-use Rattle.re_tree.specs.PlainText.{PlainTest, dot, dot_all, literal, set, PlainText, PlainTexts, unit, anchor, reference, conditional, conditional_else, sequence, alternation, counted, capture, plain, atomic_text, look_text, done, ◌also◌, Names, number_of, captures}
+use Rattle.re_tree.specs.PlainText.{PlainTest, dot, dot_all, literal, set, PlainText, PlainTexts, unit, anchor, reference, conditional, conditional_else, sequence, alternation, counted, capture, plain, atomic_text, look_text, done, ◌also◌, Names, captures}
 use Rattle.re_tree.specs.Grammar.{is_countable, IsRegex, IsBranch, IsPiece, ArePieces, AreBranches}
-use Rattle.re_tree.specs.Widths.{width}
 use Rattle.re_text.specs.Trees.{test_node, greatest, is_one_unit, join, tree_of_text, tree_of_parts, trees_of_branches}
 use Rattle.re_text.specs.Fits.{count_fits, test_fits, text_fits, texts_fit, text_depth, texts_depth, parens, all_parens}
 
@@ -23,7 +22,7 @@ test_is_unit (set negated items) = refl
 
 is_wide : (names : Names) (r : PlainText) → wide_fits (is_one_unit r) (tree_of_text names r)
 is_wide names (unit test) = test_is_unit test
-is_wide names (plain begin body) = is_wide names body
+is_wide names (plain at body) = is_wide names body
 is_wide names _ = tt
 
 join_fits : (t u : PlainTree) (groups : ℕ) → tree_fits t groups → tree_fits u groups → tree_fits (join t u) groups
@@ -38,16 +37,16 @@ mutual
   pub fits : (names : Names) (groups : ℕ) (r : PlainText) → text_fits names groups r → tree_fits (tree_of_text names r) groups
   fits names groups (unit test) h = (test_node_fits test groups h, tt)
   fits names groups (anchor k) h = (h, tt)
-  fits names groups (reference begin id) h = (h, tt)
-  fits names groups (conditional begin id met) h = ((h.0, fits names groups met h.1), tt)
-  fits names groups (conditional_else begin id met other) h = ((h.0, fits names groups met h.1, fits names groups other h.2), tt)
+  fits names groups (reference at id) h = (h, tt)
+  fits names groups (conditional at id met) h = ((h.0, fits names groups met h.1), tt)
+  fits names groups (conditional_else at id met other) h = ((h.0, fits names groups met h.1, fits names groups other h.2), tt)
   fits names groups (sequence parts) h = parts_fit names groups parts h
   fits names groups (alternation branches) h = (branches_fit names groups branches h, tt)
-  fits names groups (counted begin least most mode body) h = ((count_order least most h.0, is_wide names body, fits names groups body h.1), tt)
-  fits names groups (capture begin number name body) h = ((h.0, fits names groups body h.1), tt)
-  fits names groups (plain begin body) h = fits names groups body h
-  fits names groups (atomic_text begin body) h = (fits names groups body h, tt)
-  fits names groups (look_text begin positive back body) h = (fits names groups body h.1, tt)
+  fits names groups (counted at least most mode body) h = ((count_order least most h.0, is_wide names body, fits names groups body h.1), tt)
+  fits names groups (capture at number name body) h = ((h.0, fits names groups body h.1), tt)
+  fits names groups (plain at body) h = fits names groups body h
+  fits names groups (atomic_text at body) h = (fits names groups body h, tt)
+  fits names groups (look_text at positive back body) h = (fits names groups body h.1, tt)
 
   parts_fit : (names : Names) (groups : ℕ) (rs : PlainTexts) → texts_fit names groups rs → tree_fits (tree_of_parts names rs) groups
   parts_fit names groups done h = tt
@@ -72,16 +71,16 @@ mutual
   pub depth_is : (names : Names) (r : PlainText) → depth (tree_of_text names r) ≤ text_depth r
   depth_is names (unit test) = omega (arith, test_depth test)
   depth_is names (anchor k) = omega arith
-  depth_is names (reference begin id) = omega arith
-  depth_is names (conditional begin id met) = omega (arith, depth_is names met)
-  depth_is names (conditional_else begin id met other) = omega (arith, depth_is names met, depth_is names other)
+  depth_is names (reference at id) = omega arith
+  depth_is names (conditional at id met) = omega (arith, depth_is names met)
+  depth_is names (conditional_else at id met other) = omega (arith, depth_is names met, depth_is names other)
   depth_is names (sequence parts) = parts_depth names parts
   depth_is names (alternation branches) = omega (arith, branches_depth names branches)
-  depth_is names (counted begin least most mode body) = omega (arith, depth_is names body)
-  depth_is names (capture begin number name body) = omega (arith, depth_is names body)
-  depth_is names (plain begin body) = depth_is names body
-  depth_is names (atomic_text begin body) = omega (arith, depth_is names body)
-  depth_is names (look_text begin positive back body) = omega (arith, depth_is names body)
+  depth_is names (counted at least most mode body) = omega (arith, depth_is names body)
+  depth_is names (capture at number name body) = omega (arith, depth_is names body)
+  depth_is names (plain at body) = depth_is names body
+  depth_is names (atomic_text at body) = omega (arith, depth_is names body)
+  depth_is names (look_text at positive back body) = omega (arith, depth_is names body)
 
   parts_depth : (names : Names) (rs : PlainTexts) → depth (tree_of_parts names rs) ≤ texts_depth rs
   parts_depth names done = omega arith
@@ -94,38 +93,38 @@ mutual
 
 -- a count adds one
 counted_once : PlainText → ℕ
-counted_once (counted begin least most mode body) = 1
+counted_once (counted at least most mode body) = 1
 counted_once _ = 0
 
 once : (r : PlainText) → counted_once r ≤ 1
 unfolding counted_once
-once (counted begin least most mode body) = omega arith
+once (counted at least most mode body) = omega arith
 once (unit test) = omega arith
 once (anchor k) = omega arith
-once (reference begin id) = omega arith
-once (conditional begin id met) = omega arith
-once (conditional_else begin id met other) = omega arith
+once (reference at id) = omega arith
+once (conditional at id met) = omega arith
+once (conditional_else at id met other) = omega arith
 once (sequence parts) = omega arith
 once (alternation branches) = omega arith
-once (capture begin number name body) = omega arith
-once (plain begin body) = omega arith
-once (atomic_text begin body) = omega arith
-once (look_text begin positive back body) = omega arith
+once (capture at number name body) = omega arith
+once (plain at body) = omega arith
+once (atomic_text at body) = omega arith
+once (look_text at positive back body) = omega arith
 
 not_counted : (r : PlainText) → is_countable r ≡ true → counted_once r ≡ 0
 unfolding counted_once
-not_counted (counted begin least most mode body) h = let f : ⊥ = cc h in absurd f
+not_counted (counted at least most mode body) h = let f : ⊥ = cc h in absurd f
 not_counted (unit test) h = refl
 not_counted (anchor k) h = refl
-not_counted (reference begin id) h = refl
-not_counted (conditional begin id met) h = refl
-not_counted (conditional_else begin id met other) h = refl
+not_counted (reference at id) h = refl
+not_counted (conditional at id met) h = refl
+not_counted (conditional_else at id met other) h = refl
 not_counted (sequence parts) h = refl
 not_counted (alternation branches) h = refl
-not_counted (capture begin number name body) h = refl
-not_counted (plain begin body) h = refl
-not_counted (atomic_text begin body) h = refl
-not_counted (look_text begin positive back body) h = refl
+not_counted (capture at number name body) h = refl
+not_counted (plain at body) h = refl
+not_counted (atomic_text at body) h = refl
+not_counted (look_text at positive back body) h = refl
 
 -- three bodies for each parenthesis, and two more
 mutual
@@ -134,14 +133,14 @@ mutual
   piece_depth : (r : PlainText) (g : ℕ) → IsPiece g r → text_depth r ≤ 3 * parens r + counted_once r
   piece_depth (unit test) g h = omega arith
   piece_depth (anchor k) g h = omega arith
-  piece_depth (reference begin id) g h = omega arith
-  piece_depth (conditional begin id met) g h = omega (arith, branch_depth met g h)
-  piece_depth (conditional_else begin id met other) g h = omega (arith, branch_depth met g h.0, branch_depth other (g + captures met) h.1)
-  piece_depth (counted begin least most mode body) g h = omega (arith, piece_depth body g h.1, not_counted body h.0)
-  piece_depth (capture begin number name body) g h = omega (arith, regex_depth body (g + 1) h.1)
-  piece_depth (plain begin body) g h = omega (arith, regex_depth body g h)
-  piece_depth (atomic_text begin body) g h = omega (arith, regex_depth body g h)
-  piece_depth (look_text begin positive back body) g h = omega (arith, regex_depth body g h)
+  piece_depth (reference at id) g h = omega arith
+  piece_depth (conditional at id met) g h = omega (arith, branch_depth met g h)
+  piece_depth (conditional_else at id met other) g h = omega (arith, branch_depth met g h.0, branch_depth other (g + captures met) h.1)
+  piece_depth (counted at least most mode body) g h = omega (arith, piece_depth body g h.1, not_counted body h.0)
+  piece_depth (capture at number name body) g h = omega (arith, regex_depth body (g + 1) h.1)
+  piece_depth (plain at body) g h = omega (arith, regex_depth body g h)
+  piece_depth (atomic_text at body) g h = omega (arith, regex_depth body g h)
+  piece_depth (look_text at positive back body) g h = omega (arith, regex_depth body g h)
   piece_depth (sequence parts) g h = absurd h
   piece_depth (alternation branches) g h = absurd h
 

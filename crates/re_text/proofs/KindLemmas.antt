@@ -1,18 +1,18 @@
 -- The anchors and the sets of a text that is read are those that a code has.
 use Rattle.std.proofs.Common.{◌≡◌, refl, sym, ◌∙◌, ap, subst, ℕ, ◌+◌, ◌==◌, Bool, true, false, List, [], ◌∷◌, ◌++◌, length}
-use Rattle.std.specs.Prelude.{Option, Some, None, cond, ◌&&◌, IsTrue}
+use Rattle.std.specs.Prelude.{Some, cond, ◌&&◌, IsTrue}
 use Rattle.std.specs.List.{list_all}
 use Rattle.py_base.specs.Chars.Categories.{is_category}
 use Rattle.sre_code.specs.Anchors.{is_anchor}
 use Rattle.sre_code.specs.Spelling.{items_fit}
 use Rattle.re_tree.specs.declared.unit.UnitItem.{UnitItem}
 use Rattle.re_tree.specs.declared.unit.UnitItem.TheVariants.{Literal, Span, Category}
-use Rattle.re_tree.specs.PlainText.{PlainTest, dot, dot_all, literal, set, numbered, named, PlainText, PlainTexts, unit, anchor, reference, conditional, conditional_else, sequence, alternation, counted, capture, plain, atomic_text, look_text, done, ◌also◌}
+use Rattle.re_tree.specs.PlainText.{dot, dot_all, literal, set, PlainText, PlainTexts, unit, anchor, reference, conditional, conditional_else, sequence, alternation, counted, capture, plain, atomic_text, look_text, done, ◌also◌}
 use Rattle.re_tree.specs.Tokens.{Token, unit_token, anchor_token, reference_token, count_token, open_token, bar, close, tokens_of, tokens_in_turn, tokens_between}
 use Rattle.py_base.specs.Reading.{find}
 use Rattle.re_tree.specs.Tables.{Sign, lines, signs, Letter, categories, anchors, letters}
 use Rattle.re_tree.specs.Characters.{if_flag}
-use Rattle.re_tree.specs.Sets.{WritesItem, AreItems}
+use Rattle.re_tree.specs.Sets.{AreItems}
 use Rattle.re_tree.specs.Grammar.{Flags, WritesSet, alone, in_brackets, WritesAnchor, line_anchor, letter_anchor, IsToken, AreTokens, ReadsAs}
 use Rattle.re_text.specs.Trees.{set_items}
 use Rattle.re_text.specs.Fits.{test_fits, kinds_fit, all_kinds_fit}
@@ -83,9 +83,9 @@ token_is flags (unit_token dot_all) p front rest h = tt
 token_is flags (unit_token (literal c)) p front rest h = tt
 token_is flags (unit_token (set negated items)) p front rest h = set_fits flags negated items front rest h
 token_is flags (anchor_token k) p front rest h = anchor_fits flags k front h
-token_is flags (reference_token begin id) p front rest h = tt
-token_is flags (count_token begin least most mode) p front rest h = tt
-token_is flags (open_token begin opening) p front rest h = tt
+token_is flags (reference_token at id) p front rest h = tt
+token_is flags (count_token at least most mode) p front rest h = tt
+token_is flags (open_token at opening) p front rest h = tt
 token_is flags bar p front rest h = tt
 token_is flags close p front rest h = tt
 
@@ -105,18 +105,18 @@ mutual
   kinds : (r : PlainText) → all_fit (tokens_of r) → kinds_fit r
   kinds (unit test) h = h.0
   kinds (anchor k) h = h.0
-  kinds (reference begin id) h = tt
-  kinds (conditional begin id met) h = kinds met (front_fits (tokens_of met) (close ∷ []) h.1)
-  kinds (conditional_else begin id met other) h =
+  kinds (reference at id) h = tt
+  kinds (conditional at id met) h = kinds met (front_fits (tokens_of met) (close ∷ []) h.1)
+  kinds (conditional_else at id met other) h =
       let x = back_fits (tokens_of met) (bar ∷ (tokens_of other ++ close ∷ [])) h.1 in
       (kinds met (front_fits (tokens_of met) (bar ∷ (tokens_of other ++ close ∷ [])) h.1), kinds other (front_fits (tokens_of other) (close ∷ []) x.1))
   kinds (sequence parts) h = all_kinds parts h
   kinds (alternation branches) h = between_kinds branches h
-  kinds (counted begin least most mode body) h = kinds body (front_fits (tokens_of body) (count_token begin least most mode ∷ []) h)
-  kinds (capture begin number name body) h = kinds body (front_fits (tokens_of body) (close ∷ []) h.1)
-  kinds (plain begin body) h = kinds body (front_fits (tokens_of body) (close ∷ []) h.1)
-  kinds (atomic_text begin body) h = kinds body (front_fits (tokens_of body) (close ∷ []) h.1)
-  kinds (look_text begin positive back body) h = kinds body (front_fits (tokens_of body) (close ∷ []) h.1)
+  kinds (counted at least most mode body) h = kinds body (front_fits (tokens_of body) (count_token at least most mode ∷ []) h)
+  kinds (capture at number name body) h = kinds body (front_fits (tokens_of body) (close ∷ []) h.1)
+  kinds (plain at body) h = kinds body (front_fits (tokens_of body) (close ∷ []) h.1)
+  kinds (atomic_text at body) h = kinds body (front_fits (tokens_of body) (close ∷ []) h.1)
+  kinds (look_text at positive back body) h = kinds body (front_fits (tokens_of body) (close ∷ []) h.1)
 
   all_kinds : (rs : PlainTexts) → all_fit (tokens_in_turn rs) → all_kinds_fit rs
   all_kinds done h = tt

@@ -1,4 +1,5 @@
 pub mod CodeLemmas
+pub mod CompiledLemmas
 pub mod FitLemmas
 pub mod KindLemmas
 pub mod ListLemmas
@@ -7,3 +8,4 @@ pub mod NoFaultLemmas
 pub mod PassingLemmas
 pub mod RoomLemmas
 pub mod WidthLemmas
+pub mod WordLemmas

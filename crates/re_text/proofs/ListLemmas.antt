@@ -1,6 +1,6 @@
 -- A text that is read without a fault has a code.
-use Rattle.std.proofs.Common.{◌≡◌, refl, ℕ, ◌≤◌, List, [], ◌∷◌, ◌++◌, arith}
-use Rattle.std.specs.Prelude.{Some, None}
+use Rattle.std.proofs.Common.{◌≡◌, refl, ℕ, List, [], ◌∷◌, ◌++◌, arith}
+use Rattle.std.specs.Prelude.{None}
 use Rattle.sre_code.specs.Spelling.{spell}
 use Rattle.re_tree.specs.PlainText.{PlainText, names_of, captures}
 use Rattle.re_tree.specs.Grammar.{Flags, ReadsAs}

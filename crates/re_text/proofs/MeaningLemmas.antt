@@ -1,14 +1,14 @@
 -- The tree of a text means the text.
-use Rattle.std.proofs.Common.{◌≡◌, refl, sym, ◌∙◌, ap, subst, ℕ, zero, suc, ◌+◌, ◌-◌, ◌*◌, ◌==◌, ◌≤◌, ◌<◌, Bool, true, false, not, List, [], ◌∷◌, ◌++◌, length, drop, arith}
+use Rattle.std.proofs.Common.{◌≡◌, refl, sym, ◌∙◌, ap, subst, ℕ, ◌+◌, ◌-◌, ◌*◌, ◌≤◌, Bool, true, false, not, List, [], ◌∷◌, ◌++◌, length, drop, arith}
 use Rattle.std.specs.Prelude.{Option, Some, None, is_some, nat_lt, nat_eq, slice_range, ◌||◌}
 use Rattle.std.specs.List.{starts_with, list_any}
 use Rattle.std.proofs.lemmas.Bool.{le-ltb, ltb-false}
-use Rattle.sre_code.specs.PlainTree.{PlainNode, PlainTree, PlainTrees, fail, branch, look, nothing, ◌then◌, only, ◌or◌}
-use Rattle.sre_match.specs.Attempts.{Attempt, failed, passed, Marks, Next, stay, after, cut, back_to, negated, captured_from, span_of}
+use Rattle.sre_code.specs.PlainTree.{PlainNode, PlainTree, branch, look, nothing, ◌then◌}
+use Rattle.sre_match.specs.Attempts.{Attempt, failed, Marks, stay, after, cut, back_to, negated, span_of}
 use Rattle.sre_match.specs.Members.{is_member, is_in_item}
-use Rattle.sre_match.specs.Anchors.{met_at, is_newline, is_at_anchor}
+use Rattle.sre_match.specs.Anchors.{met_at, is_at_anchor}
 use Rattle.sre_match.specs.Repeats.{repeat_paths, room_in}
-use Rattle.sre_match.specs.Paths.{attempt, back_reference, node_paths, paths, all_paths}
+use Rattle.sre_match.specs.Paths.{back_reference, node_paths, paths, all_paths}
 use Rattle.sre_match.proofs.AfterLemmas.{after_stay, stay_after, after_after}
 use Rattle.sre_match.proofs.FullLemmas.{full}
 use Rattle.sre_match.proofs.EndLemmas.{inside}
@@ -17,7 +17,7 @@ use Rattle.re_tree.specs.declared.tree.CountMode.TheVariants.{Greedy, Lazy, Poss
 use Rattle.re_tree.specs.declared.unit.UnitItem.{UnitItem}
 use Rattle.re_tree.specs.declared.unit.UnitItem.TheVariants.{Literal, Span, Category}
 use Rattle.re_tree.specs.PlainText.{PlainTest, dot, dot_all, literal, set, PlainText, PlainTexts, unit, anchor, reference, conditional, conditional_else, sequence, alternation, counted, capture, plain, atomic_text, look_text, done, ◌also◌, Names, number_of}
-use Rattle.re_text.specs.Outcomes.{Outcome, Onward, here, only_if, each_then, closing, first_of_all, looked, ending_at, from_behind, either_first, times_from, in_mode, optional_count, unit_item_holds, test_holds, once_more, outcomes, outcomes_in_turn, outcomes_of_each}
+use Rattle.re_text.specs.Outcomes.{Outcome, Onward, here, only_if, each_then, closing, first_of_all, looked, ending_at, from_behind, in_mode, optional_count, unit_item_holds, test_holds, once_more, outcomes, outcomes_in_turn, outcomes_of_each}
 use Rattle.re_tree.specs.Widths.{width}
 use Rattle.re_text.specs.Trees.{set_item, set_items, test_node, kind_of_mode, greatest, back_of, is_one_unit, join, tree_of_text, tree_of_parts, trees_of_branches}
 use Rattle.re_text.specs.Fits.{count_fits, back_fits, text_fits, texts_fit}
@@ -133,33 +133,33 @@ mutual
   pub means : (names : Names) (groups : ℕ) (r : PlainText) → text_fits names groups r → (n : ℕ) (s : List ℕ) → length s + 2 ≤ n → Alike (length s) (paths (tree_of_text names r) s) (outcomes n names r s)
   means names groups (unit test) h n s enough p m le = ap passes (single (test_node test) s p m) ∙ unit_means test s p m
   means names groups (anchor k) h n s enough p m le = ap passes (single (PlainNode.at k) s p m) ∙ passes_attempt (is_at_anchor k s p) 2 p m
-  means names groups (reference begin id) h n s enough p m le =
+  means names groups (reference at id) h n s enough p m le =
       ap passes (single (PlainNode.ref (number_of names id)) s p m) ∙ reference_means (span_of m (number_of names id)) s p m
-  means names groups (conditional begin id met) h n s enough p m le =
+  means names groups (conditional at id met) h n s enough p m le =
       ap passes (single (PlainNode.exists (number_of names id) (tree_of_text names met)) s p m)
       ∙ passes_choice (is_some (span_of m (number_of names id))) (paths (tree_of_text names met) s p m) (stay p m) (outcomes n names met s p m) (here p m)
       (means names groups met h.1 n s enough p m le) refl
-  means names groups (conditional_else begin id met other) h n s enough p m le =
+  means names groups (conditional_else at id met other) h n s enough p m le =
       ap passes (single (PlainNode.exists_else (number_of names id) (tree_of_text names met) (tree_of_text names other)) s p m)
       ∙ passes_choice (is_some (span_of m (number_of names id))) (paths (tree_of_text names met) s p m) (paths (tree_of_text names other) s p m)
       (outcomes n names met s p m) (outcomes n names other s p m) (means names groups met h.1 n s enough p m le) (means names groups other h.2 n s enough p m le)
   means names groups (sequence parts) h n s enough p m le = parts_mean names groups parts h n s enough p m le
   means names groups (alternation branches) h n s enough p m le =
       ap passes (single (branch (trees_of_branches names branches)) s p m) ∙ branches_mean names groups branches h n s enough p m le
-  means names groups (counted begin least most mode body) h n s enough p m le =
+  means names groups (counted at least most mode body) h n s enough p m le =
       ap passes (single (PlainNode.repeat (kind_of_mode mode) (is_one_unit body) least (greatest most) (tree_of_text names body)) s p m)
       ∙ count_means mode (is_one_unit body) least most (tree_of_text names body) (outcomes n names body s) n s h.0 enough (means names groups body h.1 n s enough) p m le
-  means names groups (capture begin number name body) h n s enough p m le =
+  means names groups (capture at number name body) h n s enough p m le =
       ap passes (single (PlainNode.group number (tree_of_text names body)) s p m)
       ∙ passes_captured number p (paths (tree_of_text names body) s p m) ∙ ap (closing number p) (means names groups body h.1 n s enough p m le)
-  means names groups (plain begin body) h n s enough p m le = means names groups body h n s enough p m le
-  means names groups (atomic_text begin body) h n s enough p m le =
+  means names groups (plain at body) h n s enough p m le = means names groups body h n s enough p m le
+  means names groups (atomic_text at body) h n s enough p m le =
       ap passes (single (PlainNode.atomic (tree_of_text names body)) s p m)
       ∙ passes_cut (paths (tree_of_text names body) s p m) ∙ ap first_of_all (means names groups body h n s enough p m le)
-  means names groups (look_text begin positive false body) h n s enough p m le =
+  means names groups (look_text at positive false body) h n s enough p m le =
       ap passes (single (look positive 0 (tree_of_text names body)) s p m)
       ∙ ahead_means positive (tree_of_text names body) s p m (outcomes n names body s p m) (means names groups body h.1 n s enough p m le)
-  means names groups (look_text begin positive true body) h n s enough p m le =
+  means names groups (look_text at positive true body) h n s enough p m le =
       ap passes (single (look positive (back_of true (width body)) (tree_of_text names body)) s p m)
       ∙ behind_means positive (width body) (tree_of_text names body) (outcomes n names body s) s p m h.0 le
       (λ k w q. width_ends n names body s q k m w) (λ q l. means names groups body h.1 n s enough q m l)

@@ -1,7 +1,6 @@
 -- A text without a fault fits.
-use Rattle.std.proofs.Common.{◌≡◌, refl, sym, ◌∙◌, ap, subst, ℕ, zero, suc, ◌+◌, ◌≤◌, ◌<◌, ◌==◌, Bool, true, false, not, List, [], ◌∷◌, ◌++◌, append_assoc, append-nil, arith}
-use Rattle.std.specs.Prelude.{Option, Some, None, max, nat_le, nat_lt, nat_eq, ◌&&◌, ◌||◌, cond}
-use Rattle.std.specs.List.{list_any}
+use Rattle.std.proofs.Common.{◌≡◌, refl, sym, ◌∙◌, ap, subst, ℕ, ◌+◌, ◌≤◌, ◌<◌, ◌==◌, Bool, true, false, not, List, [], ◌∷◌, ◌++◌, append_assoc, append-nil, arith}
+use Rattle.std.specs.Prelude.{Option, Some, None, nat_le, nat_lt, nat_eq, ◌&&◌, ◌||◌, cond}
 use lib.Pointwise.{pointwise}
 use Rattle.std.proofs.lemmas.Bool.{ltb-false, leb-false, eqb-true}
 use Rattle.std.proofs.lemmas.Bool.Decides.{nat_tests}
@@ -13,7 +12,7 @@ use Rattle.re_tree.specs.declared.fault.Fault.{Fault}
 use Rattle.re_tree.specs.declared.fault.FaultKind.{FaultKind}
 use Rattle.re_tree.specs.declared.fault.FaultKind.TheVariants.{TooDeep, TooManyGroups, BadName, BadCount, BadReference, NotFixedWidth}
 use Rattle.re_tree.specs.Tokens.{Opening, capturing, non_capturing, atomic_opening, look_opening, conditional_opening}
-use Rattle.re_tree.specs.Faults.{is_identifier, only_if, Where, outermost, has_number, has_name, numbers_of, all_numbers, names_at, inside, after, is_closed, deep, at_reference, of_opening, at_opening, is_bad_count, at_count, is_wide, at_close, faults, faults_in_turn, conditional_of, conditionals, all_conditionals, is_past, conditional_faults, is_before, the_first, first_of, all_faults, fault_of}
+use Rattle.re_tree.specs.Faults.{is_identifier, only_if, Where, outermost, has_number, has_name, numbers_of, all_numbers, names_at, inside, after, is_closed, deep, at_reference, of_opening, at_opening, is_bad_count, at_count, at_close, faults, faults_in_turn, conditional_of, conditionals, all_conditionals, is_past, conditional_faults, is_before, the_first, first_of, all_faults, fault_of}
 use Rattle.re_text.specs.Fits.{count_fits, back_fits, text_fits, texts_fit, parens, all_parens, kinds_fit, all_kinds_fit}
 
 front_none : (xs ys : List Fault) → xs ++ ys ≡ [] → xs ≡ []
@@ -24,9 +23,9 @@ back_none : (xs ys : List Fault) → xs ++ ys ≡ [] → ys ≡ []
 back_none [] ys e = e
 back_none (x ∷ xs) ys e = let f : ⊥ = cc e in absurd f
 
-not_if : (b : Bool) (begin : ℕ) (kind : FaultKind) → only_if b begin kind ≡ [] → b ≡ false
-not_if true begin kind e = let f : ⊥ = cc e in absurd f
-not_if false begin kind e = refl
+not_if : (b : Bool) (at : ℕ) (kind : FaultKind) → only_if b at kind ≡ [] → b ≡ false
+not_if true at kind e = let f : ⊥ = cc e in absurd f
+not_if false at kind e = refl
 
 first_none : (a : Fault) (o : Option Fault) → the_first a o ≡ None → ⊥
 first_none a None e = cc e
@@ -68,10 +67,10 @@ count_is_good least (Some most) h =
     let c = ltb-false most least (or_right (nat_lt 4294967294 least || nat_lt 4294967294 most) (nat_lt most least) h) in
     (omega (arith, c), omega (arith, b))
 
-back_is_good : (positive back : Bool) (begin : ℕ) (w : Option ℕ) → at_close begin (look_opening positive back) w ≡ [] → back_fits back w
-back_is_good positive false begin w h = tt
-back_is_good positive true begin None h = let f : ⊥ = cc h in absurd f
-back_is_good positive true begin (Some k) h = omega (arith, ltb-false 4294967295 k (not_if (nat_lt 4294967295 k) begin NotFixedWidth h))
+back_is_good : (positive back : Bool) (at : ℕ) (w : Option ℕ) → at_close at (look_opening positive back) w ≡ [] → back_fits back w
+back_is_good positive false at w h = tt
+back_is_good positive true at None h = let f : ⊥ = cc h in absurd f
+back_is_good positive true at (Some k) h = omega (arith, ltb-false 4294967295 k (not_if (nat_lt 4294967295 k) at NotFixedWidth h))
 
 -- names that are there stay the first ones
 kept_name : (a b : Names) (name : List ℕ) → 1 ≤ find_name a name → find_name (a ++ b) name ≡ find_name a name
@@ -115,18 +114,18 @@ mutual
   piece_numbers : (r : PlainText) (g : ℕ) → IsPiece g r → AreNumbers (g + captures r) (names_of r)
   piece_numbers (unit test) g h = tt
   piece_numbers (anchor k) g h = tt
-  piece_numbers (reference begin id) g h = tt
-  piece_numbers (conditional begin id met) g h = branch_numbers met g h
-  piece_numbers (conditional_else begin id met other) g h =
+  piece_numbers (reference at id) g h = tt
+  piece_numbers (conditional at id met) g h = branch_numbers met g h
+  piece_numbers (conditional_else at id met other) g h =
       both_numbers (g + (captures met + captures other)) (names_of met) (names_of other)
       (more_numbers (g + captures met) _ (names_of met) (omega arith) (branch_numbers met g h.0)) (more_numbers (g + captures met + captures other) _ (names_of other) (omega arith) (branch_numbers other (g + captures met) h.1))
-  piece_numbers (counted begin least most mode body) g h = piece_numbers body g h.1
-  piece_numbers (capture begin number name body) g h =
+  piece_numbers (counted at least most mode body) g h = piece_numbers body g h.1
+  piece_numbers (capture at number name body) g h =
       both_numbers (g + (captures body + 1)) (name_of name number) (names_of body) (own_number name number _ (omega (arith, h.0)) (omega (arith, h.0)))
       (more_numbers (g + 1 + captures body) _ (names_of body) (omega arith) (regex_numbers body (g + 1) h.1))
-  piece_numbers (plain begin body) g h = regex_numbers body g h
-  piece_numbers (atomic_text begin body) g h = regex_numbers body g h
-  piece_numbers (look_text begin positive back body) g h = regex_numbers body g h
+  piece_numbers (plain at body) g h = regex_numbers body g h
+  piece_numbers (atomic_text at body) g h = regex_numbers body g h
+  piece_numbers (look_text at positive back body) g h = regex_numbers body g h
   piece_numbers (sequence parts) g h = absurd h
   piece_numbers (alternation branches) g h = absurd h
 
@@ -176,18 +175,18 @@ mutual
   piece_closed : (r : PlainText) (g : ℕ) → IsPiece g r → AreIn (g + captures r) (numbers_of r)
   piece_closed (unit test) g h = tt
   piece_closed (anchor k) g h = tt
-  piece_closed (reference begin id) g h = tt
-  piece_closed (conditional begin id met) g h = branch_closed met g h
-  piece_closed (conditional_else begin id met other) g h =
+  piece_closed (reference at id) g h = tt
+  piece_closed (conditional at id met) g h = branch_closed met g h
+  piece_closed (conditional_else at id met other) g h =
       both_in (g + (captures met + captures other)) (numbers_of met) (numbers_of other)
       (more_in (g + captures met) _ (numbers_of met) (omega arith) (branch_closed met g h.0)) (more_in (g + captures met + captures other) _ (numbers_of other) (omega arith) (branch_closed other (g + captures met) h.1))
-  piece_closed (counted begin least most mode body) g h = piece_closed body g h.1
-  piece_closed (capture begin number name body) g h =
+  piece_closed (counted at least most mode body) g h = piece_closed body g h.1
+  piece_closed (capture at number name body) g h =
       both_in (g + (captures body + 1)) (numbers_of body) (number ∷ []) (more_in (g + 1 + captures body) _ (numbers_of body) (omega arith) (regex_closed body (g + 1) h.1))
       (omega (arith, h.0), omega (arith, h.0), tt)
-  piece_closed (plain begin body) g h = regex_closed body g h
-  piece_closed (atomic_text begin body) g h = regex_closed body g h
-  piece_closed (look_text begin positive back body) g h = regex_closed body g h
+  piece_closed (plain at body) g h = regex_closed body g h
+  piece_closed (atomic_text at body) g h = regex_closed body g h
+  piece_closed (look_text at positive back body) g h = regex_closed body g h
   piece_closed (sequence parts) g h = absurd h
   piece_closed (alternation branches) g h = absurd h
 
@@ -230,26 +229,26 @@ pub record AllGood (all : ℕ) (names : Names) (g : ℕ) (w : Where) (rs : Plain
   pub nested : w.depth + all_parens rs ≤ 60
   pub few : g + all_captures rs ≤ 65535
 
-shallow : (w : Where) (begin : ℕ) → deep w begin ≡ [] → w.depth < 60
-shallow w begin e = leb-false 60 w.depth (not_if (nat_le 60 w.depth) begin TooDeep e)
+shallow : (w : Where) (at : ℕ) → deep w at ≡ [] → w.depth < 60
+shallow w at e = leb-false 60 w.depth (not_if (nat_le 60 w.depth) at TooDeep e)
 
 -- of an opening without a fault
-open_front : (w : Where) (begin number : ℕ) (o : Opening) (x : List Fault) → at_opening w begin number o ++ x ≡ [] → (w.depth < 60) × (of_opening w begin number o ≡ []) × (x ≡ [])
-open_front w begin number o x e =
-    let a = front_none (at_opening w begin number o) x e in
-    (shallow w begin (front_none (deep w begin) (of_opening w begin number o) a), back_none (deep w begin) (of_opening w begin number o) a, back_none (at_opening w begin number o) x e)
+open_front : (w : Where) (at number : ℕ) (o : Opening) (x : List Fault) → at_opening w at number o ++ x ≡ [] → (w.depth < 60) × (of_opening w at number o ≡ []) × (x ≡ [])
+open_front w at number o x e =
+    let a = front_none (at_opening w at number o) x e in
+    (shallow w at (front_none (deep w at) (of_opening w at number o) a), back_none (deep w at) (of_opening w at number o) a, back_none (at_opening w at number o) x e)
 
-closed_reference : (w : Where) (begin : ℕ) (id : GroupName) → at_reference w begin id ≡ [] → is_closed w id ≡ true
-closed_reference w begin (numbered n) e = not_false (is_closed w (numbered n)) (not_if (not (is_closed w (numbered n))) begin BadReference e)
-closed_reference w begin (named name) e =
-    let a = only_if (not (is_identifier name)) begin BadName in
-    let b = only_if (not (is_closed w (named name))) begin BadReference in
-    not_false (is_closed w (named name)) (not_if (not (is_closed w (named name))) begin BadReference (back_none a b (back_none (deep w begin) (a ++ b) e)))
+closed_reference : (w : Where) (at : ℕ) (id : GroupName) → at_reference w at id ≡ [] → is_closed w id ≡ true
+closed_reference w at (numbered n) e = not_false (is_closed w (numbered n)) (not_if (not (is_closed w (numbered n))) at BadReference e)
+closed_reference w at (named name) e =
+    let a = only_if (not (is_identifier name)) at BadName in
+    let b = only_if (not (is_closed w (named name))) at BadReference in
+    not_false (is_closed w (named name)) (not_if (not (is_closed w (named name))) at BadReference (back_none a b (back_none (deep w at) (a ++ b) e)))
 
-few_groups : (w : Where) (begin number : ℕ) (name : Option (List ℕ)) → of_opening w begin number (capturing name) ≡ [] → number ≤ 65535
-few_groups w begin number None e = ltb-false 65535 number (not_if (nat_lt 65535 number) begin TooManyGroups e)
-few_groups w begin number (Some name) e =
-    ltb-false 65535 number (not_if (nat_lt 65535 number) begin TooManyGroups (front_none (only_if (nat_lt 65535 number) begin TooManyGroups) (only_if (not (is_identifier name) || has_name w.names name) begin BadName) e))
+few_groups : (w : Where) (at number : ℕ) (name : Option (List ℕ)) → of_opening w at number (capturing name) ≡ [] → number ≤ 65535
+few_groups w at number None e = ltb-false 65535 number (not_if (nat_lt 65535 number) at TooManyGroups e)
+few_groups w at number (Some name) e =
+    ltb-false 65535 number (not_if (nat_lt 65535 number) at TooManyGroups (front_none (only_if (nat_lt 65535 number) at TooManyGroups) (only_if (not (is_identifier name) || has_name w.names name) at BadName) e))
 
 reference_good : (id : GroupName) (all : ℕ) (names later : Names) (w : Where) → is_closed w id ≡ true → AreIn all w.closed → names ≡ w.names ++ later → IsGroup all (number_of names id)
 reference_good (numbered n) all names later w h c e = found_in all n w.closed c h
@@ -257,15 +256,15 @@ reference_good (named name) all names later w h c e =
     let k : IsGroup all (find_name w.names name) = found_in all (find_name w.names name) w.closed c h in
     subst (IsGroup all) (sym (ap (λ l. find_name l name) e ∙ kept_name w.names later name k.0)) k
 
-choice_good : (id : GroupName) (all begin number : ℕ) (names later : Names) (w : Where) → of_opening w begin number (conditional_opening id) ≡ [] → conditional_faults all (conditional_of begin id) ≡ [] → AreNumbers all w.names → names ≡ w.names ++ later → IsGroup all (number_of names id)
-choice_good (numbered n) all begin number names later w o f k e =
-    let p = not_if (is_past all n) begin BadReference (front_none (only_if (is_past all n) begin BadReference) [] f) in
+choice_good : (id : GroupName) (all at number : ℕ) (names later : Names) (w : Where) → of_opening w at number (conditional_opening id) ≡ [] → conditional_faults all (conditional_of at id) ≡ [] → AreNumbers all w.names → names ≡ w.names ++ later → IsGroup all (number_of names id)
+choice_good (numbered n) all at number names later w o f k e =
+    let p = not_if (is_past all n) at BadReference (front_none (only_if (is_past all n) at BadReference) [] f) in
     let z : (n == 0) ≡ false = or_left (n == 0) (nat_lt all n) p in
     let q : n ≤ all = ltb-false all n (or_right (n == 0) (nat_lt all n) p) in
     (grind (arith, nat_tests, z), q)
-choice_good (named name) all begin number names later w o f k e =
-    let b = only_if (not (has_name w.names name)) begin BadReference in
-    let h = not_false (has_name w.names name) (not_if (not (has_name w.names name)) begin BadReference (back_none (only_if (not (is_identifier name)) begin BadName) b o)) in
+choice_good (named name) all at number names later w o f k e =
+    let b = only_if (not (has_name w.names name)) at BadReference in
+    let h = not_false (has_name w.names name) (not_if (not (has_name w.names name)) at BadReference (back_none (only_if (not (is_identifier name)) at BadName) b o)) in
     let g : IsGroup all (find_name w.names name) = named_number all w.names name k h in
     subst (IsGroup all) (sym (ap (λ l. find_name l name) e ∙ kept_name w.names later name g.0)) g
 
@@ -303,20 +302,20 @@ mutual
   piece_good : (r : PlainText) (all g : ℕ) (w : Where) (names later : Names) → IsPiece g r → kinds_fit r → Asked all g w names later (faults w r) (conditionals r) (names_of r) (captures r) → Good all names g w r
   piece_good (unit test) all g w names later h k a = record { fits = k; nested = omega (arith, a.4.depth); few = omega (arith, a.4.few) }
   piece_good (anchor n) all g w names later h k a = record { fits = k; nested = omega (arith, a.4.depth); few = omega (arith, a.4.few) }
-  piece_good (reference begin id) all g w names later h k a = record {
-    fits = reference_good id all names later w (closed_reference w begin id a.0) a.4.ended a.2;
+  piece_good (reference at id) all g w names later h k a = record {
+    fits = reference_good id all names later w (closed_reference w at id a.0) a.4.ended a.2;
     nested = omega (arith, a.4.depth);
     few = omega (arith, a.4.few);
   }
-  piece_good (conditional begin id met) all g w names later h k a =
-      let o = open_front w begin 0 (conditional_opening id) (faults (inside w 0 (conditional_opening id)) met) a.0 in
+  piece_good (conditional at id met) all g w names later h k a =
+      let o = open_front w at 0 (conditional_opening id) (faults (inside w 0 (conditional_opening id)) met) a.0 in
       let m : Good all names g (inside w 0 (conditional_opening id)) met = branch_good met all g (inside w 0 (conditional_opening id)) names later h k
-      (o.2, back_choices all (conditional_of begin id) (conditionals met) a.1, no_name w.names (names_of met) later names a.2, a.3, deeper_stands all g 0 w (conditional_opening id) refl a.4 o.0) in
-      record { fits = (choice_good id all begin 0 names (names_of met ++ later) w o.1 (front_choices all (conditional_of begin id) (conditionals met) a.1) a.4.numbers a.2, m.fits); nested = omega (arith, m.nested); few = m.few }
-  piece_good (conditional_else begin id met other) all g w names later h k a =
+      (o.2, back_choices all (conditional_of at id) (conditionals met) a.1, no_name w.names (names_of met) later names a.2, a.3, deeper_stands all g 0 w (conditional_opening id) refl a.4 o.0) in
+      record { fits = (choice_good id all at 0 names (names_of met ++ later) w o.1 (front_choices all (conditional_of at id) (conditionals met) a.1) a.4.numbers a.2, m.fits); nested = omega (arith, m.nested); few = m.few }
+  piece_good (conditional_else at id met other) all g w names later h k a =
       let v = inside w 0 (conditional_opening id) in
-      let o = open_front w begin 0 (conditional_opening id) (faults v met ++ faults (after v met) other) a.0 in
-      let c = back_choices all (conditional_of begin id) (conditionals met ++ conditionals other) a.1 in
+      let o = open_front w at 0 (conditional_opening id) (faults v met ++ faults (after v met) other) a.0 in
+      let c = back_choices all (conditional_of at id) (conditionals met ++ conditionals other) a.1 in
       let t = deeper_stands all g 0 w (conditional_opening id) refl a.4 o.0 in
       let e1 : names ≡ w.names ++ (names_of met ++ (names_of other ++ later)) = a.2 ∙ simp append_assoc in
       let e2 : names ≡ ((w.names ++ []) ++ names_of met) ++ (names_of other ++ later) = no_name w.names (names_of met) (names_of other ++ later) names e1 ∙ simp append_assoc in
@@ -325,14 +324,14 @@ mutual
       let j : Stood all (g + captures met) (after v met) = after_stands all g v met (branch_numbers met g h.0) (branch_closed met g h.0) (omega (arith, a.3)) m.few t in
       let n : Good all names (g + captures met) (after v met) other = branch_good other all (g + captures met) (after v met) names later h.1 k.1
       (back_none (faults v met) (faults (after v met) other) o.2, back_choices all (conditionals met) (conditionals other) c, e2, omega (arith, a.3), j) in
-      record { fits = (choice_good id all begin 0 names ((names_of met ++ names_of other) ++ later) w o.1 (front_choices all (conditional_of begin id) (conditionals met ++ conditionals other) a.1) a.4.numbers a.2, m.fits, n.fits); nested = omega (arith, m.nested, n.nested); few = omega (arith, n.few) }
-  piece_good (counted begin least most mode body) all g w names later h k a =
-      let m : Good all names g w body = piece_good body all g w names later h.1 k (front_none (faults w body) (at_count begin least most) a.0, a.1, a.2, a.3, a.4) in
-      record { fits = (count_is_good least most (not_if (is_bad_count least most) begin BadCount (back_none (faults w body) (at_count begin least most) a.0)), m.fits); nested = m.nested; few = m.few }
-  piece_good (capture begin number name body) all g w names later h k a =
+      record { fits = (choice_good id all at 0 names ((names_of met ++ names_of other) ++ later) w o.1 (front_choices all (conditional_of at id) (conditionals met ++ conditionals other) a.1) a.4.numbers a.2, m.fits, n.fits); nested = omega (arith, m.nested, n.nested); few = omega (arith, n.few) }
+  piece_good (counted at least most mode body) all g w names later h k a =
+      let m : Good all names g w body = piece_good body all g w names later h.1 k (front_none (faults w body) (at_count at least most) a.0, a.1, a.2, a.3, a.4) in
+      record { fits = (count_is_good least most (not_if (is_bad_count least most) at BadCount (back_none (faults w body) (at_count at least most) a.0)), m.fits); nested = m.nested; few = m.few }
+  piece_good (capture at number name body) all g w names later h k a =
       let v = inside w number (capturing name) in
-      let o = open_front w begin number (capturing name) (faults v body) a.0 in
-      let n = few_groups w begin number name o.1 in
+      let o = open_front w at number (capturing name) (faults v body) a.0 in
+      let n = few_groups w at number name o.1 in
       let t : Stood all (g + 1) v = record {
         numbers = both_numbers all w.names (name_of name number) a.4.numbers (own_number name number all (omega (arith, h.0)) (omega (arith, h.0, a.3)));
         ended = a.4.ended;
@@ -342,19 +341,19 @@ mutual
       let e1 : names ≡ (w.names ++ name_of name number) ++ (names_of body ++ later) = a.2 ∙ simp append_assoc in
       let m : Good all names (g + 1) v body = regex_good body all (g + 1) v names later h.1 k (o.2, a.1, e1, omega (arith, a.3), t) in
       record { fits = ((omega (arith, h.0), omega (arith, h.0, a.3)), m.fits); nested = omega (arith, m.nested); few = omega (arith, m.few) }
-  piece_good (plain begin body) all g w names later h k a =
-      let o = open_front w begin 0 non_capturing (faults (inside w 0 non_capturing) body) a.0 in
+  piece_good (plain at body) all g w names later h k a =
+      let o = open_front w at 0 non_capturing (faults (inside w 0 non_capturing) body) a.0 in
       let m : Good all names g (inside w 0 non_capturing) body = regex_good body all g (inside w 0 non_capturing) names later h k (o.2, a.1, no_name w.names (names_of body) later names a.2, a.3, deeper_stands all g 0 w non_capturing refl a.4 o.0) in
       record { fits = m.fits; nested = omega (arith, m.nested); few = m.few }
-  piece_good (atomic_text begin body) all g w names later h k a =
-      let o = open_front w begin 0 atomic_opening (faults (inside w 0 atomic_opening) body) a.0 in
+  piece_good (atomic_text at body) all g w names later h k a =
+      let o = open_front w at 0 atomic_opening (faults (inside w 0 atomic_opening) body) a.0 in
       let m : Good all names g (inside w 0 atomic_opening) body = regex_good body all g (inside w 0 atomic_opening) names later h k (o.2, a.1, no_name w.names (names_of body) later names a.2, a.3, deeper_stands all g 0 w atomic_opening refl a.4 o.0) in
       record { fits = m.fits; nested = omega (arith, m.nested); few = m.few }
-  piece_good (look_text begin positive back body) all g w names later h k a =
+  piece_good (look_text at positive back body) all g w names later h k a =
       let v = inside w 0 (look_opening positive back) in
-      let c = at_close begin (look_opening positive back) (width body) in
-      let o = open_front w begin 0 (look_opening positive back) (faults v body ++ c) a.0 in
-      let i = back_is_good positive back begin (width body) (back_none (faults v body) c o.2) in
+      let c = at_close at (look_opening positive back) (width body) in
+      let o = open_front w at 0 (look_opening positive back) (faults v body ++ c) a.0 in
+      let i = back_is_good positive back at (width body) (back_none (faults v body) c o.2) in
       let m : Good all names g v body = regex_good body all g v names later h k (front_none (faults v body) c o.2, a.1, no_name w.names (names_of body) later names a.2, a.3, deeper_stands all g 0 w (look_opening positive back) refl a.4 o.0) in
       record { fits = (i, m.fits); nested = omega (arith, m.nested); few = m.few }
   piece_good (sequence parts) all g w names later h k a = absurd h

@@ -1,8 +1,8 @@
 -- The number of optional times that a text's count and its tree's repeat are gone on with.
-use Rattle.std.proofs.Common.{◌≡◌, refl, sym, ◌∙◌, ap, ℕ, zero, suc, ◌+◌, ◌-◌, ◌≤◌, ◌<◌, ◌==◌, ◌⊎◌, inl, inr, Bool, true, false, List, length, arith}
+use Rattle.std.proofs.Common.{◌≡◌, sym, ◌∙◌, ap, ℕ, ◌+◌, ◌-◌, ◌≤◌, ◌<◌, ◌⊎◌, inl, inr, Bool, true, false, arith}
 use Rattle.std.specs.Prelude.{Option, Some, None, min}
 use Rattle.std.proofs.lemmas.Bool.{ne_eqb, cases_lt}
-use Rattle.sre_match.specs.Attempts.{Attempt, Next, Marks}
+use Rattle.sre_match.specs.Attempts.{Next, Marks}
 use Rattle.sre_match.specs.Repeats.{repeat_paths, room_in}
 use Rattle.sre_match.proofs.RoomLemmas.{Inside, cap_is_enough}
 use Rattle.re_text.specs.Outcomes.{optional_count}

@@ -1,12 +1,12 @@
 -- A part of a width passes over that many units.
-use Rattle.std.proofs.Common.{◌≡◌, refl, sym, ◌∙◌, ap, subst, ℕ, zero, suc, ◌+◌, ◌-◌, ◌*◌, ◌==◌, ◌≤◌, ◌<◌, Bool, true, false, List, [], ◌∷◌, ◌++◌, arith, length}
+use Rattle.std.proofs.Common.{◌≡◌, refl, sym, ◌∙◌, ap, subst, ℕ, zero, suc, ◌+◌, ◌*◌, ◌==◌, Bool, true, false, List, [], ◌∷◌, ◌++◌, arith}
 use Rattle.std.specs.Prelude.{Option, Some, None, is_some, cond}
 use Rattle.std.proofs.lemmas.Bool.{eq-eqb, eqb-true}
 use Rattle.sre_match.specs.Attempts.{Marks, span_of}
 use Rattle.re_tree.specs.declared.tree.CountMode.{CountMode}
 use Rattle.re_tree.specs.declared.tree.CountMode.TheVariants.{Greedy, Lazy, Possessive}
 use Rattle.re_tree.specs.PlainText.{PlainText, PlainTexts, unit, anchor, reference, conditional, conditional_else, sequence, alternation, counted, capture, plain, atomic_text, look_text, done, ◌also◌, Names, number_of}
-use Rattle.re_text.specs.Outcomes.{Outcome, Onward, here, only_if, each_then, closing, first_of_all, looked, keep_if, ending_at, from_behind, at_most, times_from, in_mode, optional_count, outcomes, outcomes_in_turn, outcomes_of_each}
+use Rattle.re_text.specs.Outcomes.{Outcome, Onward, here, only_if, each_then, closing, first_of_all, looked, keep_if, ending_at, times_from, in_mode, optional_count, outcomes, outcomes_in_turn, outcomes_of_each}
 use Rattle.re_tree.specs.Widths.{plus, common, times, width, sum_of_widths, common_width}
 use Rattle.re_text.specs.Laws.{AllEndAt}
 
@@ -85,27 +85,27 @@ mutual
   pub width_ends : (n : ℕ) (names : Names) (r : PlainText) (s : List ℕ) (p k : ℕ) (m : Marks) → width r ≡ Some k → AllEndAt (p + k) (outcomes n names r s p m)
   width_ends n names (unit test) s p k m h = let e : 1 ≡ k = cc h in at_end (p + 1) (p + k) _ (ap (λ d. p + d) e) (only_ends _ (p + 1) m)
   width_ends n names (anchor kind) s p k m h = let e : 0 ≡ k = cc h in at_end p (p + k) _ (omega (arith, e)) (only_ends _ p m)
-  width_ends n names (reference begin id) s p k m h = let f : ⊥ = cc h in absurd f
-  width_ends n names (conditional begin id met) s p k m h =
+  width_ends n names (reference at id) s p k m h = let f : ⊥ = cc h in absurd f
+  width_ends n names (conditional at id met) s p k m h =
       let w = common_some (width met) (Some 0) k h in
       let e : 0 ≡ k = cc w.1 in
       choice_ends (is_some (span_of m (number_of names id))) (p + k) (outcomes n names met s p m) (here p m) (width_ends n names met s p k m w.0) (omega (arith, e), tt)
-  width_ends n names (conditional_else begin id met other) s p k m h =
+  width_ends n names (conditional_else at id met other) s p k m h =
       let w = common_some (width met) (width other) k h in
       choice_ends (is_some (span_of m (number_of names id))) (p + k) (outcomes n names met s p m) (outcomes n names other s p m) (width_ends n names met s p k m w.0) (width_ends n names other s p k m w.1)
   width_ends n names (sequence parts) s p k m h = parts_end n names parts s p k m h
   width_ends n names (alternation branches) s p k m h = branches_end n names branches s p k m h
-  width_ends n names (counted begin least most mode body) s p k m h =
+  width_ends n names (counted at least most mode body) s p k m h =
       let w = times_some least most (width body) k h in
       let none : optional_count n least most ≡ 0 = ap (optional_count n least) w.1 ∙ omega arith in
       at_end (p + least * w.0) (p + k) _ (omega (arith, w.3))
       (subst (λ j. AllEndAt (p + least * w.0) (in_mode mode (outcomes n names body s) least j p m)) (sym none)
       (mode_ends mode (outcomes n names body s) w.0 (λ q l. width_ends n names body s q w.0 l w.2) least p m))
-  width_ends n names (capture begin number name body) s p k m h = closing_ends number p (p + k) (outcomes n names body s p m) (width_ends n names body s p k m h)
-  width_ends n names (plain begin body) s p k m h = width_ends n names body s p k m h
-  width_ends n names (atomic_text begin body) s p k m h = first_ends (p + k) (outcomes n names body s p m) (width_ends n names body s p k m h)
-  width_ends n names (look_text begin positive false body) s p k m h = let e : 0 ≡ k = cc h in at_end p (p + k) _ (omega (arith, e)) (looked_ends positive p m _)
-  width_ends n names (look_text begin positive true body) s p k m h = let e : 0 ≡ k = cc h in at_end p (p + k) _ (omega (arith, e)) (looked_ends positive p m _)
+  width_ends n names (capture at number name body) s p k m h = closing_ends number p (p + k) (outcomes n names body s p m) (width_ends n names body s p k m h)
+  width_ends n names (plain at body) s p k m h = width_ends n names body s p k m h
+  width_ends n names (atomic_text at body) s p k m h = first_ends (p + k) (outcomes n names body s p m) (width_ends n names body s p k m h)
+  width_ends n names (look_text at positive false body) s p k m h = let e : 0 ≡ k = cc h in at_end p (p + k) _ (omega (arith, e)) (looked_ends positive p m _)
+  width_ends n names (look_text at positive true body) s p k m h = let e : 0 ≡ k = cc h in at_end p (p + k) _ (omega (arith, e)) (looked_ends positive p m _)
 
   parts_end : (n : ℕ) (names : Names) (rs : PlainTexts) (s : List ℕ) (p k : ℕ) (m : Marks) → sum_of_widths rs ≡ Some k → AllEndAt (p + k) (outcomes_in_turn n names rs s p m)
   parts_end n names done s p k m h = let e : 0 ≡ k = cc h in (omega (arith, e), tt)

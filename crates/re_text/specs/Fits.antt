@@ -1,10 +1,9 @@
 -- Which patterns have a code: those without a fault of a count, a name, a group or a
 -- width.
-use Rattle.std.specs.Prelude.{◌≡◌, ℕ, ◌+◌, ◌≤◌, ◌<◌, Bool, true, false, Option, Some, None, max, IsTrue, List}
+use Rattle.std.specs.Prelude.{ℕ, ◌+◌, ◌≤◌, ◌<◌, Bool, true, false, Option, Some, None, max, IsTrue}
 use Rattle.sre_code.specs.declared.opcodes.TheConstants.{MAXREPEAT}
 use Rattle.sre_code.specs.Anchors.{is_anchor}
 use Rattle.sre_code.specs.Spelling.{IsGroup, items_fit}
-use Rattle.re_tree.specs.declared.unit.UnitItem.{UnitItem}
 use Rattle.re_tree.specs.declared.limits.TheConstants.{MAX_WIDTH}
 use Rattle.re_tree.specs.PlainText.{PlainTest, dot, dot_all, literal, set, PlainText, PlainTexts, unit, anchor, reference, conditional, conditional_else, sequence, alternation, counted, capture, plain, atomic_text, look_text, done, ◌also◌, Names, number_of}
 use Rattle.re_text.specs.Trees.{set_items}
@@ -31,20 +30,20 @@ abbrev mutual
   pub text_fits : Names → ℕ → PlainText → Type 0
   text_fits names groups (unit test) = test_fits test
   text_fits names groups (anchor k) = IsTrue (is_anchor k)
-  text_fits names groups (reference begin id) = IsGroup groups (number_of names id)
-  text_fits names groups (conditional begin id met) = IsGroup groups (number_of names id)
+  text_fits names groups (reference at id) = IsGroup groups (number_of names id)
+  text_fits names groups (conditional at id met) = IsGroup groups (number_of names id)
       × text_fits names groups met
-  text_fits names groups (conditional_else begin id met other) = IsGroup groups (number_of names id)
+  text_fits names groups (conditional_else at id met other) = IsGroup groups (number_of names id)
       × text_fits names groups met × text_fits names groups other
   text_fits names groups (sequence parts) = texts_fit names groups parts
   text_fits names groups (alternation branches) = texts_fit names groups branches
-  text_fits names groups (counted begin least most mode body) = count_fits least most
+  text_fits names groups (counted at least most mode body) = count_fits least most
       × text_fits names groups body
-  text_fits names groups (capture begin number name body) = IsGroup groups number
+  text_fits names groups (capture at number name body) = IsGroup groups number
       × text_fits names groups body
-  text_fits names groups (plain begin body) = text_fits names groups body
-  text_fits names groups (atomic_text begin body) = text_fits names groups body
-  text_fits names groups (look_text begin positive back body) = back_fits back (width body)
+  text_fits names groups (plain at body) = text_fits names groups body
+  text_fits names groups (atomic_text at body) = text_fits names groups body
+  text_fits names groups (look_text at positive back body) = back_fits back (width body)
       × text_fits names groups body
 
   pub texts_fit : Names → ℕ → PlainTexts → Type 0
@@ -54,15 +53,15 @@ abbrev mutual
 -- how many bodies are inside one another in the tree of a pattern
 abbrev mutual
   pub text_depth : PlainText → ℕ
-  text_depth (conditional begin id met) = text_depth met + 1
-  text_depth (conditional_else begin id met other) = max (text_depth met + 1) (text_depth other + 1)
+  text_depth (conditional at id met) = text_depth met + 1
+  text_depth (conditional_else at id met other) = max (text_depth met + 1) (text_depth other + 1)
   text_depth (sequence parts) = texts_depth parts
   text_depth (alternation branches) = texts_depth branches + 1
-  text_depth (counted begin least most mode body) = text_depth body + 1
-  text_depth (capture begin number name body) = text_depth body + 1
-  text_depth (plain begin body) = text_depth body
-  text_depth (atomic_text begin body) = text_depth body + 1
-  text_depth (look_text begin positive back body) = text_depth body + 1
+  text_depth (counted at least most mode body) = text_depth body + 1
+  text_depth (capture at number name body) = text_depth body + 1
+  text_depth (plain at body) = text_depth body
+  text_depth (atomic_text at body) = text_depth body + 1
+  text_depth (look_text at positive back body) = text_depth body + 1
   text_depth _ = 0
 
   pub texts_depth : PlainTexts → ℕ
@@ -72,15 +71,15 @@ abbrev mutual
 -- how many parentheses are inside one another
 abbrev mutual
   pub parens : PlainText → ℕ
-  parens (conditional begin id met) = parens met + 1
-  parens (conditional_else begin id met other) = max (parens met) (parens other) + 1
+  parens (conditional at id met) = parens met + 1
+  parens (conditional_else at id met other) = max (parens met) (parens other) + 1
   parens (sequence parts) = all_parens parts
   parens (alternation branches) = all_parens branches
-  parens (counted begin least most mode body) = parens body
-  parens (capture begin number name body) = parens body + 1
-  parens (plain begin body) = parens body + 1
-  parens (atomic_text begin body) = parens body + 1
-  parens (look_text begin positive back body) = parens body + 1
+  parens (counted at least most mode body) = parens body
+  parens (capture at number name body) = parens body + 1
+  parens (plain at body) = parens body + 1
+  parens (atomic_text at body) = parens body + 1
+  parens (look_text at positive back body) = parens body + 1
   parens _ = 0
 
   pub all_parens : PlainTexts → ℕ
@@ -92,16 +91,16 @@ abbrev mutual
   pub kinds_fit : PlainText → Type 0
   kinds_fit (unit test) = test_fits test
   kinds_fit (anchor k) = IsTrue (is_anchor k)
-  kinds_fit (reference begin id) = Unit {0}
-  kinds_fit (conditional begin id met) = kinds_fit met
-  kinds_fit (conditional_else begin id met other) = kinds_fit met × kinds_fit other
+  kinds_fit (reference at id) = Unit {0}
+  kinds_fit (conditional at id met) = kinds_fit met
+  kinds_fit (conditional_else at id met other) = kinds_fit met × kinds_fit other
   kinds_fit (sequence parts) = all_kinds_fit parts
   kinds_fit (alternation branches) = all_kinds_fit branches
-  kinds_fit (counted begin least most mode body) = kinds_fit body
-  kinds_fit (capture begin number name body) = kinds_fit body
-  kinds_fit (plain begin body) = kinds_fit body
-  kinds_fit (atomic_text begin body) = kinds_fit body
-  kinds_fit (look_text begin positive back body) = kinds_fit body
+  kinds_fit (counted at least most mode body) = kinds_fit body
+  kinds_fit (capture at number name body) = kinds_fit body
+  kinds_fit (plain at body) = kinds_fit body
+  kinds_fit (atomic_text at body) = kinds_fit body
+  kinds_fit (look_text at positive back body) = kinds_fit body
 
   pub all_kinds_fit : PlainTexts → Type 0
   all_kinds_fit done = Unit {0}

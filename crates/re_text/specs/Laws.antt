@@ -1,5 +1,5 @@
 -- What the words of a pattern mean.
-use Rattle.std.specs.Prelude.{◌≡◌, ℕ, ◌+◌, ◌≤◌, ◌*◌, List, [], ◌∷◌, ◌++◌, length, Option, Some, None}
+use Rattle.std.specs.Prelude.{◌≡◌, ℕ, ◌+◌, ◌≤◌, List, [], ◌∷◌, ◌++◌, length, Some, None}
 use Rattle.sre_code.specs.PlainTree.{PlainTree}
 use Rattle.sre_code.specs.Spelling.{Spells, spell}
 use Rattle.sre_match.specs.Attempts.{Attempt, failed, passed, Marks}

@@ -3,3 +3,5 @@ pub mod Laws
 pub mod Outcomes
 pub mod Rows
 pub mod Trees
+pub mod Compiled
+pub mod Words

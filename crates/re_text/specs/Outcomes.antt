@@ -1,12 +1,12 @@
 -- The outcomes of a pattern at a place, in their order.
-use Rattle.std.specs.Prelude.{ℕ, zero, suc, ◌+◌, ◌-◌, ◌==◌, nat_eq, nat_lt, nat_le, not, ◌&&◌, Bool, true, false, List, [], ◌∷◌, ◌++◌, length, drop, slice_range, Option, Some, None, is_some, if◌then◌else◌}
+use Rattle.std.specs.Prelude.{ℕ, zero, suc, ◌+◌, ◌-◌, ◌==◌, nat_eq, nat_lt, nat_le, not, ◌&&◌, Bool, true, false, List, [], ◌∷◌, ◌++◌, length, drop, slice_range, Option, Some, None, is_some}
 use Rattle.std.specs.List.{starts_with, list_any}
 use Rattle.py_base.specs.Chars.Categories.{in_category}
 use Rattle.re_tree.specs.declared.tree.CountMode.{CountMode}
 use Rattle.re_tree.specs.declared.tree.CountMode.TheVariants.{Greedy, Lazy, Possessive}
 use Rattle.re_tree.specs.declared.unit.UnitItem.{UnitItem}
 use Rattle.re_tree.specs.declared.unit.UnitItem.TheVariants.{Literal, Span, Category}
-use Rattle.re_tree.specs.PlainText.{PlainTest, dot, dot_all, literal, set, PlainText, PlainTexts, unit, anchor, reference, conditional, conditional_else, sequence, alternation, counted, capture, plain, atomic_text, look_text, done, ◌also◌, Names, names_of, number_of}
+use Rattle.re_tree.specs.PlainText.{PlainTest, dot, dot_all, literal, set, PlainText, PlainTexts, unit, anchor, reference, conditional, conditional_else, sequence, alternation, counted, capture, plain, atomic_text, look_text, done, ◌also◌, Names, number_of}
 use Rattle.sre_match.specs.Attempts.{Marks, span_of}
 use Rattle.sre_match.specs.Anchors.{met_at, is_newline, is_at_anchor}
 use Rattle.sre_match.specs.Repeats.{is_past}
@@ -121,19 +121,19 @@ abbrev mutual
   pub outcomes : ℕ → Names → PlainText → List ℕ → Onward
   outcomes n names (unit test) s p m = only_if (met_at (test_holds test) s p) (p + 1) m
   outcomes n names (anchor k) s p m = only_if (is_at_anchor k s p) p m
-  outcomes n names (reference begin id) s p m = once_more (span_of m (number_of names id)) s p m
-  outcomes n names (conditional begin id met) s p m =
+  outcomes n names (reference at id) s p m = once_more (span_of m (number_of names id)) s p m
+  outcomes n names (conditional at id met) s p m =
       elim (is_some (span_of m (number_of names id))) [ true ↦ outcomes n names met s p m | false ↦ here p m ]
-  outcomes n names (conditional_else begin id met other) s p m =
+  outcomes n names (conditional_else at id met other) s p m =
       elim (is_some (span_of m (number_of names id))) [ true ↦ outcomes n names met s p m | false ↦ outcomes n names other s p m ]
   outcomes n names (sequence parts) s p m = outcomes_in_turn n names parts s p m
   outcomes n names (alternation branches) s p m = outcomes_of_each n names branches s p m
-  outcomes n names (counted begin least most mode body) s p m = in_mode mode (outcomes n names body s) least (optional_count n least most) p m
-  outcomes n names (capture begin number name body) s p m = closing number p (outcomes n names body s p m)
-  outcomes n names (plain begin body) s p m = outcomes n names body s p m
-  outcomes n names (atomic_text begin body) s p m = first_of_all (outcomes n names body s p m)
-  outcomes n names (look_text begin positive false body) s p m = looked positive p m (outcomes n names body s p m)
-  outcomes n names (look_text begin positive true body) s p m = looked positive p m (from_behind (width body) p m (outcomes n names body s))
+  outcomes n names (counted at least most mode body) s p m = in_mode mode (outcomes n names body s) least (optional_count n least most) p m
+  outcomes n names (capture at number name body) s p m = closing number p (outcomes n names body s p m)
+  outcomes n names (plain at body) s p m = outcomes n names body s p m
+  outcomes n names (atomic_text at body) s p m = first_of_all (outcomes n names body s p m)
+  outcomes n names (look_text at positive false body) s p m = looked positive p m (outcomes n names body s p m)
+  outcomes n names (look_text at positive true body) s p m = looked positive p m (from_behind (width body) p m (outcomes n names body s))
 
   -- one part after another
   pub outcomes_in_turn : ℕ → Names → PlainTexts → List ℕ → Onward

@@ -1,7 +1,7 @@
 -- Worked rows, which compute.
-use Rattle.std.specs.Prelude.{◌≡◌, refl, ℕ, ◌+◌, true, false, List, [], ◌∷◌, codes, Option, Some, None}
+use Rattle.std.specs.Prelude.{◌≡◌, refl, ◌+◌, true, false, [], ◌∷◌, codes, Some, None}
 use Rattle.re_tree.specs.declared.tree.CountMode.TheVariants.{Greedy, Lazy, Possessive}
-use Rattle.re_tree.specs.PlainText.{literal, dot, PlainText, unit, anchor, reference, numbered, sequence, alternation, counted, capture, plain, look_text, conditional, done, ◌also◌}
+use Rattle.re_tree.specs.PlainText.{literal, PlainText, unit, reference, numbered, sequence, alternation, counted, capture, plain, look_text, conditional, done, ◌also◌}
 use Rattle.re_text.specs.Outcomes.{outcomes}
 use Rattle.re_tree.specs.Widths.{width}
 use Rattle.re_text.specs.Laws.{passes}

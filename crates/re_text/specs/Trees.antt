@@ -5,7 +5,7 @@ use Rattle.sre_code.specs.declared.set.SetItem.{SetItem}
 use Rattle.sre_code.specs.declared.set.SetItem.TheVariants.{Literal, Span, Category}
 use Rattle.sre_code.specs.declared.tree.RepeatKind.{RepeatKind}
 use Rattle.sre_code.specs.declared.tree.RepeatKind.TheVariants.{Greedy, Lazy, Possessive}
-use Rattle.sre_code.specs.PlainTree.{PlainNode, PlainTree, PlainTrees, fail, any, any_all, lit, not_lit, one_of, at, group, ref, exists, exists_else, branch, repeat, atomic, look, nothing, ◌then◌, only, ◌or◌}
+use Rattle.sre_code.specs.PlainTree.{PlainNode, PlainTree, PlainTrees, fail, any, any_all, lit, one_of, group, ref, exists, exists_else, branch, repeat, atomic, look, nothing, ◌then◌, only, ◌or◌}
 use Rattle.re_tree.specs.declared.tree.CountMode.{CountMode}
 use Rattle.re_tree.specs.declared.tree.CountMode.TheVariants.{Greedy as GreedyCount, Lazy as LazyCount, Possessive as PossessiveCount}
 use Rattle.re_tree.specs.declared.unit.UnitItem.{UnitItem}
@@ -47,7 +47,7 @@ back_of true (Some k) = k
 -- the body of a count may be compiled as one unit wide
 abbrev pub is_one_unit : PlainText → Bool
 is_one_unit (unit test) = true
-is_one_unit (plain begin body) = is_one_unit body
+is_one_unit (plain at body) = is_one_unit body
 is_one_unit _ = false
 
 -- nodes before a tree
@@ -58,19 +58,19 @@ join (n then t) u = n then join t u
 abbrev mutual
   pub tree_of_text : Names → PlainText → PlainTree
   tree_of_text names (unit test) = test_node test then nothing
-  tree_of_text names (anchor k) = at k then nothing
-  tree_of_text names (reference begin id) = ref (number_of names id) then nothing
-  tree_of_text names (conditional begin id met) = exists (number_of names id) (tree_of_text names met) then nothing
-  tree_of_text names (conditional_else begin id met other) =
+  tree_of_text names (anchor k) = PlainNode.at k then nothing
+  tree_of_text names (reference at id) = ref (number_of names id) then nothing
+  tree_of_text names (conditional at id met) = exists (number_of names id) (tree_of_text names met) then nothing
+  tree_of_text names (conditional_else at id met other) =
       exists_else (number_of names id) (tree_of_text names met) (tree_of_text names other) then nothing
   tree_of_text names (sequence parts) = tree_of_parts names parts
   tree_of_text names (alternation branches) = branch (trees_of_branches names branches) then nothing
-  tree_of_text names (counted begin least most mode body) =
+  tree_of_text names (counted at least most mode body) =
       repeat (kind_of_mode mode) (is_one_unit body) least (greatest most) (tree_of_text names body) then nothing
-  tree_of_text names (capture begin number name body) = group number (tree_of_text names body) then nothing
-  tree_of_text names (plain begin body) = tree_of_text names body
-  tree_of_text names (atomic_text begin body) = atomic (tree_of_text names body) then nothing
-  tree_of_text names (look_text begin positive back body) =
+  tree_of_text names (capture at number name body) = group number (tree_of_text names body) then nothing
+  tree_of_text names (plain at body) = tree_of_text names body
+  tree_of_text names (atomic_text at body) = atomic (tree_of_text names body) then nothing
+  tree_of_text names (look_text at positive back body) =
       look positive (back_of back (width body)) (tree_of_text names body) then nothing
 
   pub tree_of_parts : Names → PlainTexts → PlainTree

@@ -1,4 +1,11 @@
-//! What a pattern means, and the tree of a code that means the same.
+//! What a pattern means, and the code that means the same.
 #![tactic(auto)]
 
+mod code_end;
+mod compile;
 pub mod laws;
+mod names;
+mod parts;
+mod units;
+
+pub use compile::{TextCode, compile_text};

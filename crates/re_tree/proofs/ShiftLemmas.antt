@@ -4,7 +4,7 @@ use Rattle.std.specs.Prelude.{Option, Some, None}
 use Rattle.re_tree.specs.PlainText.{PlainText, PlainTexts, unit, anchor, reference, conditional, conditional_else, sequence, alternation, counted, capture, plain, atomic_text, look_text, done, ◌also◌, captures, all_captures}
 use Rattle.re_tree.specs.Tokens.{Opening, capturing, non_capturing, atomic_opening, look_opening, conditional_opening, Token, unit_token, anchor_token, reference_token, count_token, open_token, bar, close, tokens_of, tokens_in_turn, tokens_between}
 use Rattle.re_tree.specs.Grammar.{is_countable, IsRegex, IsBranch, IsPiece, ArePieces, AreBranches}
-use Rattle.re_tree.specs.Machine.{snoc, Frame, frame, State, state, groups_begun, put_front, one_if, count_last, regex_of, part_of, counted_state, closed_state, close_frame, step, run, run_on, finish, tree_of_tokens}
+use Rattle.re_tree.specs.Machine.{snoc, Frame, frame, State, state, groups_begun, put_first, one_if, count_last, regex_of, part_of, counted_state, closed_state, close_frame, step, run, run_on, finish, tree_of_tokens}
 
 abbrev pub append : PlainTexts → PlainTexts → PlainTexts
 append done qs = qs
@@ -29,8 +29,8 @@ append_nil (x ∷ xs) = ap (λ l. x ∷ l) (append_nil xs)
 -- a count takes the last piece
 count_pushed : (f : PlainText → PlainText) (ps : PlainTexts) (r : PlainText) → is_countable r ≡ true → count_last f (snoc ps r) ≡ Some (snoc ps (f r))
 count_pushed f done r h = ap (λ b. one_if b (f r)) h
-count_pushed f (p also done) r h = ap (put_front p) (count_pushed f done r h)
-count_pushed f (p also q also ps) r h = ap (put_front p) (count_pushed f (q also ps) r h)
+count_pushed f (p also done) r h = ap (put_first p) (count_pushed f done r h)
+count_pushed f (p also q also ps) r h = ap (put_first p) (count_pushed f (q also ps) r h)
 
 from_groups : (a b : ℕ) (outer : List Frame) (bs ps : PlainTexts) (x : List Token) → a ≡ b → run (state a outer bs ps) x ≡ run (state b outer bs ps) x
 from_groups a b outer bs ps x e = ap (λ n. run (state n outer bs ps) x) e
@@ -60,13 +60,13 @@ IsSome done = ⊥
 IsSome (r also rs) = Unit {0}
 
 -- an opening, its inside and the parenthesis that closes it
-inside_group : (g : ℕ) (outer : List Frame) (bs ps : PlainTexts) (begin : ℕ) (o : Opening) (r p : PlainText) (x : List Token) (n : ℕ)
-    → Read (g + groups_begun o) (frame begin o (g + 1) bs ps ∷ outer) r (close ∷ x)
-    → ((cs qs : PlainTexts) → regex_of cs qs ≡ r → part_of o begin (g + 1) cs qs ≡ Some p)
+inside_group : (g : ℕ) (outer : List Frame) (bs ps : PlainTexts) (at : ℕ) (o : Opening) (r p : PlainText) (x : List Token) (n : ℕ)
+    → Read (g + groups_begun o) (frame at o (g + 1) bs ps ∷ outer) r (close ∷ x)
+    → ((cs qs : PlainTexts) → regex_of cs qs ≡ r → part_of o at (g + 1) cs qs ≡ Some p)
     → g + groups_begun o + captures r ≡ n
-    → run (state g outer bs ps) ((open_token begin o ∷ (tokens_of r ++ close ∷ [])) ++ x) ≡ run (state n outer bs (snoc ps p)) x
-inside_group g outer bs ps begin o r p x n h f e =
-    ap (run (state (g + groups_begun o) (frame begin o (g + 1) bs ps ∷ outer) done done)) (append_assoc (tokens_of r) (close ∷ []) x)
+    → run (state g outer bs ps) ((open_token at o ∷ (tokens_of r ++ close ∷ [])) ++ x) ≡ run (state n outer bs (snoc ps p)) x
+inside_group g outer bs ps at o r p x n h f e =
+    ap (run (state (g + groups_begun o) (frame at o (g + 1) bs ps ∷ outer) done done)) (append_assoc (tokens_of r) (close ∷ []) x)
     ∙ h.runs
     ∙ ap (λ c. run_on (closed_state (g + groups_begun o + captures r) outer bs ps c) x) (f h.branches h.pieces h.whole)
     ∙ from_groups (g + groups_begun o + captures r) n outer bs (snoc ps p) x e
@@ -76,16 +76,16 @@ mutual
       → run (state g outer bs ps) (tokens_of r ++ x) ≡ run (state (g + captures r) outer bs (snoc ps r)) x
   piece_runs (unit test) g outer bs ps x h = from_groups g (g + 0) outer bs (snoc ps (unit test)) x (omega arith)
   piece_runs (anchor k) g outer bs ps x h = from_groups g (g + 0) outer bs (snoc ps (anchor k)) x (omega arith)
-  piece_runs (reference begin id) g outer bs ps x h = from_groups g (g + 0) outer bs (snoc ps (reference begin id)) x (omega arith)
-  piece_runs (conditional begin id met) g outer bs ps x h =
-      let f : Frame = frame begin (conditional_opening id) (g + 1) bs ps in
+  piece_runs (reference at id) g outer bs ps x h = from_groups g (g + 0) outer bs (snoc ps (reference at id)) x (omega arith)
+  piece_runs (conditional at id met) g outer bs ps x h =
+      let f : Frame = frame at (conditional_opening id) (g + 1) bs ps in
       let m : Pieces (g + 0) (f ∷ outer) done met (close ∷ x) = branch_runs met (g + 0) (f ∷ outer) done (close ∷ x) (subst (λ n. IsBranch n met) (omega arith) h) in
       ap (run (state (g + 0) (f ∷ outer) done done)) (append_assoc (tokens_of met) (close ∷ []) x)
       ∙ m.runs
-      ∙ ap (λ q. run (state (g + 0 + captures met) outer bs (snoc ps (conditional begin id q))) x) m.whole
-      ∙ from_groups (g + 0 + captures met) (g + captures met) outer bs (snoc ps (conditional begin id met)) x (omega arith)
-  piece_runs (conditional_else begin id met other) g outer bs ps x h =
-      let f : Frame = frame begin (conditional_opening id) (g + 1) bs ps in
+      ∙ ap (λ q. run (state (g + 0 + captures met) outer bs (snoc ps (conditional at id q))) x) m.whole
+      ∙ from_groups (g + 0 + captures met) (g + captures met) outer bs (snoc ps (conditional at id met)) x (omega arith)
+  piece_runs (conditional_else at id met other) g outer bs ps x h =
+      let f : Frame = frame at (conditional_opening id) (g + 1) bs ps in
       let m : Pieces (g + 0) (f ∷ outer) done met (bar ∷ (tokens_of other ++ close ∷ x)) =
       branch_runs met (g + 0) (f ∷ outer) done (bar ∷ (tokens_of other ++ close ∷ x)) (subst (λ n. IsBranch n met) (omega arith) h.0) in
       let k : Pieces (g + 0 + captures met) (f ∷ outer) (met also done) other (close ∷ x) =
@@ -94,28 +94,28 @@ mutual
       ∙ m.runs
       ∙ ap (λ q. run (state (g + 0 + captures met) (f ∷ outer) (q also done) done) (tokens_of other ++ close ∷ x)) m.whole
       ∙ k.runs
-      ∙ ap (λ q. run (state (g + 0 + captures met + captures other) outer bs (snoc ps (conditional_else begin id met q))) x) k.whole
-      ∙ from_groups (g + 0 + captures met + captures other) (g + (captures met + captures other)) outer bs (snoc ps (conditional_else begin id met other)) x (omega arith)
-  piece_runs (counted begin least most mode body) g outer bs ps x h =
-      ap (run (state g outer bs ps)) (append_assoc (tokens_of body) (count_token begin least most mode ∷ []) x)
-      ∙ piece_runs body g outer bs ps (count_token begin least most mode ∷ x) h.1
-      ∙ ap (λ c. run_on (counted_state (g + captures body) outer bs c) x) (count_pushed (counted begin least most mode) ps body h.0)
-  piece_runs (capture begin number name body) g outer bs ps x h =
-      inside_group g outer bs ps begin (capturing name) body (capture begin number name body) x (g + (captures body + 1))
-      (regex_runs body (g + 1) (frame begin (capturing name) (g + 1) bs ps ∷ outer) (close ∷ x) h.1)
-      (λ cs qs e. λ i. Some (capture begin (sym h.0 i) name (e i))) (omega arith)
-  piece_runs (plain begin body) g outer bs ps x h =
-      inside_group g outer bs ps begin non_capturing body (plain begin body) x (g + captures body)
-      (regex_runs body (g + 0) (frame begin non_capturing (g + 1) bs ps ∷ outer) (close ∷ x) (subst (λ n. IsRegex n body) (omega arith) h))
-      (λ cs qs e. λ i. Some (plain begin (e i))) (omega arith)
-  piece_runs (atomic_text begin body) g outer bs ps x h =
-      inside_group g outer bs ps begin atomic_opening body (atomic_text begin body) x (g + captures body)
-      (regex_runs body (g + 0) (frame begin atomic_opening (g + 1) bs ps ∷ outer) (close ∷ x) (subst (λ n. IsRegex n body) (omega arith) h))
-      (λ cs qs e. λ i. Some (atomic_text begin (e i))) (omega arith)
-  piece_runs (look_text begin positive back body) g outer bs ps x h =
-      inside_group g outer bs ps begin (look_opening positive back) body (look_text begin positive back body) x (g + captures body)
-      (regex_runs body (g + 0) (frame begin (look_opening positive back) (g + 1) bs ps ∷ outer) (close ∷ x) (subst (λ n. IsRegex n body) (omega arith) h))
-      (λ cs qs e. λ i. Some (look_text begin positive back (e i))) (omega arith)
+      ∙ ap (λ q. run (state (g + 0 + captures met + captures other) outer bs (snoc ps (conditional_else at id met q))) x) k.whole
+      ∙ from_groups (g + 0 + captures met + captures other) (g + (captures met + captures other)) outer bs (snoc ps (conditional_else at id met other)) x (omega arith)
+  piece_runs (counted at least most mode body) g outer bs ps x h =
+      ap (run (state g outer bs ps)) (append_assoc (tokens_of body) (count_token at least most mode ∷ []) x)
+      ∙ piece_runs body g outer bs ps (count_token at least most mode ∷ x) h.1
+      ∙ ap (λ c. run_on (counted_state (g + captures body) outer bs c) x) (count_pushed (counted at least most mode) ps body h.0)
+  piece_runs (capture at number name body) g outer bs ps x h =
+      inside_group g outer bs ps at (capturing name) body (capture at number name body) x (g + (captures body + 1))
+      (regex_runs body (g + 1) (frame at (capturing name) (g + 1) bs ps ∷ outer) (close ∷ x) h.1)
+      (λ cs qs e. λ i. Some (capture at (sym h.0 i) name (e i))) (omega arith)
+  piece_runs (plain at body) g outer bs ps x h =
+      inside_group g outer bs ps at non_capturing body (plain at body) x (g + captures body)
+      (regex_runs body (g + 0) (frame at non_capturing (g + 1) bs ps ∷ outer) (close ∷ x) (subst (λ n. IsRegex n body) (omega arith) h))
+      (λ cs qs e. λ i. Some (plain at (e i))) (omega arith)
+  piece_runs (atomic_text at body) g outer bs ps x h =
+      inside_group g outer bs ps at atomic_opening body (atomic_text at body) x (g + captures body)
+      (regex_runs body (g + 0) (frame at atomic_opening (g + 1) bs ps ∷ outer) (close ∷ x) (subst (λ n. IsRegex n body) (omega arith) h))
+      (λ cs qs e. λ i. Some (atomic_text at (e i))) (omega arith)
+  piece_runs (look_text at positive back body) g outer bs ps x h =
+      inside_group g outer bs ps at (look_opening positive back) body (look_text at positive back body) x (g + captures body)
+      (regex_runs body (g + 0) (frame at (look_opening positive back) (g + 1) bs ps ∷ outer) (close ∷ x) (subst (λ n. IsRegex n body) (omega arith) h))
+      (λ cs qs e. λ i. Some (look_text at positive back (e i))) (omega arith)
   piece_runs (sequence parts) g outer bs ps x h = absurd h
   piece_runs (alternation branches) g outer bs ps x h = absurd h
 

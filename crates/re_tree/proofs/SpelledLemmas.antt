@@ -4,7 +4,7 @@ use Rattle.std.specs.Prelude.{Option, Some, None}
 use Rattle.re_tree.specs.PlainText.{PlainText, PlainTexts, unit, anchor, reference, conditional, conditional_else, sequence, alternation, counted, capture, plain, atomic_text, look_text, done, ◌also◌, captures, all_captures}
 use Rattle.re_tree.specs.Tokens.{Opening, capturing, non_capturing, atomic_opening, look_opening, conditional_opening, Token, unit_token, anchor_token, reference_token, count_token, open_token, bar, close, tokens_of, tokens_in_turn, tokens_between}
 use Rattle.re_tree.specs.Grammar.{is_countable, IsRegex, IsBranch, IsPiece, ArePieces, AreBranches}
-use Rattle.re_tree.specs.Machine.{snoc, Frame, frame, State, state, groups_begun, put_front, one_if, count_last, regex_of, part_of, counted_state, closed_state, close_frame, step, step_on, run, run_on, finish, tree_of_tokens}
+use Rattle.re_tree.specs.Machine.{snoc, Frame, frame, State, state, groups_begun, put_first, one_if, count_last, regex_of, part_of, counted_state, closed_state, close_frame, step, step_on, run, run_on, finish, tree_of_tokens}
 
 append_nil : (xs : List Token) → xs ++ [] ≡ xs
 append_nil [] = refl
@@ -17,7 +17,7 @@ bars (r also rs) = tokens_of r ++ bar ∷ bars rs
 
 abbrev pub outer_tokens : List Frame → List Token
 outer_tokens [] = []
-outer_tokens (frame begin o number bs ps ∷ outer) = outer_tokens outer ++ (bars bs ++ (tokens_in_turn ps ++ open_token begin o ∷ []))
+outer_tokens (frame at o number bs ps ∷ outer) = outer_tokens outer ++ (bars bs ++ (tokens_in_turn ps ++ open_token at o ∷ []))
 
 -- the tokens that the machine has read
 abbrev pub spelled : State → List Token
@@ -26,11 +26,11 @@ spelled (state g outer bs ps) = outer_tokens outer ++ (bars bs ++ tokens_in_turn
 -- how many groups begin before the inside of the innermost opening
 abbrev pub count_in : List Frame → ℕ
 count_in [] = 0
-count_in (frame begin o number bs ps ∷ outer) = count_in outer + all_captures bs + all_captures ps + groups_begun o
+count_in (frame at o number bs ps ∷ outer) = count_in outer + all_captures bs + all_captures ps + groups_begun o
 
 abbrev pub AreFrames : List Frame → Type 0
 AreFrames [] = Unit {0}
-AreFrames (frame begin o number bs ps ∷ outer) =
+AreFrames (frame at o number bs ps ∷ outer) =
     AreFrames outer × AreBranches (count_in outer) bs × ArePieces (count_in outer + all_captures bs) ps × (number ≡ count_in outer + all_captures bs + all_captures ps + 1)
 
 abbrev pub IsState : State → Type 0
@@ -86,42 +86,42 @@ regex_shape done ps g h k = subst (λ n. ArePieces n ps) (omega arith) k
 regex_shape (b also bs) ps g h k = two_branches b bs (sequence ps) g (branches_snoc (b also bs) g (sequence ps) h k)
 
 -- what a closed opening is
-pub record Part (g : ℕ) (o : Opening) (begin : ℕ) (bs ps : PlainTexts) (r : PlainText) : Type 0 where
-  pub tokens : tokens_of r ≡ open_token begin o ∷ ((bars bs ++ tokens_in_turn ps) ++ close ∷ [])
+pub record Part (g : ℕ) (o : Opening) (at : ℕ) (bs ps : PlainTexts) (r : PlainText) : Type 0 where
+  pub tokens : tokens_of r ≡ open_token at o ∷ ((bars bs ++ tokens_in_turn ps) ++ close ∷ [])
   pub shape : IsPiece g r
   pub counts : captures r ≡ groups_begun o + all_captures bs + all_captures ps
 
-wrapped : (begin : ℕ) (o : Opening) (bs ps : PlainTexts) → open_token begin o ∷ (tokens_of (regex_of bs ps) ++ close ∷ []) ≡ open_token begin o ∷ ((bars bs ++ tokens_in_turn ps) ++ close ∷ [])
-wrapped begin o bs ps = ap (λ l. open_token begin o ∷ (l ++ close ∷ [])) (regex_tokens bs ps)
+wrapped : (at : ℕ) (o : Opening) (bs ps : PlainTexts) → open_token at o ∷ (tokens_of (regex_of bs ps) ++ close ∷ []) ≡ open_token at o ∷ ((bars bs ++ tokens_in_turn ps) ++ close ∷ [])
+wrapped at o bs ps = ap (λ l. open_token at o ∷ (l ++ close ∷ [])) (regex_tokens bs ps)
 
-same_part : (g : ℕ) (o : Opening) (begin : ℕ) (bs ps : PlainTexts) (p r : PlainText) → Some p ≡ Some r → Part g o begin bs ps p → Part g o begin bs ps r
-same_part g o begin bs ps p r e h = let f : p ≡ r = cc e in subst (λ q. Part g o begin bs ps q) f h
+same_part : (g : ℕ) (o : Opening) (at : ℕ) (bs ps : PlainTexts) (p r : PlainText) → Some p ≡ Some r → Part g o at bs ps p → Part g o at bs ps r
+same_part g o at bs ps p r e h = let f : p ≡ r = cc e in subst (λ q. Part g o at bs ps q) f h
 
-part_is : (o : Opening) (g begin number : ℕ) (bs ps : PlainTexts) (r : PlainText) → AreBranches (g + groups_begun o) bs → ArePieces (g + groups_begun o + all_captures bs) ps → number ≡ g + 1
-    → part_of o begin number bs ps ≡ Some r → Part g o begin bs ps r
-part_is (capturing name) g begin number bs ps r h k e f =
-    same_part g (capturing name) begin bs ps (capture begin number name (regex_of bs ps)) r f
-    (record { tokens = wrapped begin (capturing name) bs ps; shape = (e, regex_shape bs ps (g + 1) h k); counts = omega (arith, regex_captures bs ps) })
-part_is non_capturing g begin number bs ps r h k e f =
-    same_part g non_capturing begin bs ps (plain begin (regex_of bs ps)) r f
-    (record { tokens = wrapped begin non_capturing bs ps; shape = subst (λ n. IsRegex n (regex_of bs ps)) (omega arith) (regex_shape bs ps (g + 0) h k); counts = omega (arith, regex_captures bs ps) })
-part_is atomic_opening g begin number bs ps r h k e f =
-    same_part g atomic_opening begin bs ps (atomic_text begin (regex_of bs ps)) r f
-    (record { tokens = wrapped begin atomic_opening bs ps; shape = subst (λ n. IsRegex n (regex_of bs ps)) (omega arith) (regex_shape bs ps (g + 0) h k); counts = omega (arith, regex_captures bs ps) })
-part_is (look_opening positive back) g begin number bs ps r h k e f =
-    same_part g (look_opening positive back) begin bs ps (look_text begin positive back (regex_of bs ps)) r f
-    (record { tokens = wrapped begin (look_opening positive back) bs ps; shape = subst (λ n. IsRegex n (regex_of bs ps)) (omega arith) (regex_shape bs ps (g + 0) h k); counts = omega (arith, regex_captures bs ps) })
-part_is (conditional_opening id) g begin number done ps r h k e f =
-    same_part g (conditional_opening id) begin done ps (conditional begin id (sequence ps)) r f
+part_is : (o : Opening) (g at number : ℕ) (bs ps : PlainTexts) (r : PlainText) → AreBranches (g + groups_begun o) bs → ArePieces (g + groups_begun o + all_captures bs) ps → number ≡ g + 1
+    → part_of o at number bs ps ≡ Some r → Part g o at bs ps r
+part_is (capturing name) g at number bs ps r h k e f =
+    same_part g (capturing name) at bs ps (capture at number name (regex_of bs ps)) r f
+    (record { tokens = wrapped at (capturing name) bs ps; shape = (e, regex_shape bs ps (g + 1) h k); counts = omega (arith, regex_captures bs ps) })
+part_is non_capturing g at number bs ps r h k e f =
+    same_part g non_capturing at bs ps (plain at (regex_of bs ps)) r f
+    (record { tokens = wrapped at non_capturing bs ps; shape = subst (λ n. IsRegex n (regex_of bs ps)) (omega arith) (regex_shape bs ps (g + 0) h k); counts = omega (arith, regex_captures bs ps) })
+part_is atomic_opening g at number bs ps r h k e f =
+    same_part g atomic_opening at bs ps (atomic_text at (regex_of bs ps)) r f
+    (record { tokens = wrapped at atomic_opening bs ps; shape = subst (λ n. IsRegex n (regex_of bs ps)) (omega arith) (regex_shape bs ps (g + 0) h k); counts = omega (arith, regex_captures bs ps) })
+part_is (look_opening positive back) g at number bs ps r h k e f =
+    same_part g (look_opening positive back) at bs ps (look_text at positive back (regex_of bs ps)) r f
+    (record { tokens = wrapped at (look_opening positive back) bs ps; shape = subst (λ n. IsRegex n (regex_of bs ps)) (omega arith) (regex_shape bs ps (g + 0) h k); counts = omega (arith, regex_captures bs ps) })
+part_is (conditional_opening id) g at number done ps r h k e f =
+    same_part g (conditional_opening id) at done ps (conditional at id (sequence ps)) r f
     (record { tokens = refl; shape = subst (λ n. ArePieces n ps) (omega arith) k; counts = omega arith })
-part_is (conditional_opening id) g begin number (b also done) ps r h k e f =
-    same_part g (conditional_opening id) begin (b also done) ps (conditional_else begin id b (sequence ps)) r f
+part_is (conditional_opening id) g at number (b also done) ps r h k e f =
+    same_part g (conditional_opening id) at (b also done) ps (conditional_else at id b (sequence ps)) r f
     (record {
-      tokens = ap (λ l. open_token begin (conditional_opening id) ∷ l) (simp append_assoc);
+      tokens = ap (λ l. open_token at (conditional_opening id) ∷ l) (simp append_assoc);
       shape = (subst (λ n. IsBranch n b) (omega arith) h.0, subst (λ n. ArePieces n ps) (omega arith) k);
       counts = omega arith;
     })
-part_is (conditional_opening id) g begin number (b also c also bs) ps r h k e f = let x : ⊥ = cc f in absurd x
+part_is (conditional_opening id) g at number (b also c also bs) ps r h k e f = let x : ⊥ = cc f in absurd x
 
 -- one step
 pub record Steps (s : State) (t : Token) (n : State) : Type 0 where
@@ -154,7 +154,7 @@ last_one : (f : PlainText → PlainText) (r : PlainText) (qs : PlainTexts) (b : 
 last_one f r qs true e h = let i : f r also done ≡ qs = cc h in record { written = done; piece = r; was = refl; takes = e; now = sym i }
 last_one f r qs false e h = let x : ⊥ = cc h in absurd x
 
-last_more : (f : PlainText → PlainText) (p : PlainText) (ps : PlainTexts) (qs : PlainTexts) (o : Option PlainTexts) → ((us : PlainTexts) → o ≡ Some us → Last f ps us) → put_front p o ≡ Some qs → Last f (p also ps) qs
+last_more : (f : PlainText → PlainText) (p : PlainText) (ps : PlainTexts) (qs : PlainTexts) (o : Option PlainTexts) → ((us : PlainTexts) → o ≡ Some us → Last f ps us) → put_first p o ≡ Some qs → Last f (p also ps) qs
 last_more f p ps qs None h e = let x : ⊥ = cc e in absurd x
 last_more f p ps qs (Some us) h e =
     let l : Last f ps us = h us refl in
@@ -166,31 +166,31 @@ count_takes f done qs h = let x : ⊥ = cc h in absurd x
 count_takes f (r also done) qs h = last_one f r qs (is_countable r) refl h
 count_takes f (p also r also ps) qs h = last_more f p (r also ps) qs (count_last f (r also ps)) (λ us e. count_takes f (r also ps) us e) h
 
-counted_steps : (g : ℕ) (outer : List Frame) (bs ps : PlainTexts) (begin least : ℕ) (most : Option ℕ) (mode : _) (n : State) (o : Option PlainTexts)
-    → IsState (state g outer bs ps) → count_last (counted begin least most mode) ps ≡ o → counted_state g outer bs o ≡ Some n → Steps (state g outer bs ps) (count_token begin least most mode) n
-counted_steps g outer bs ps begin least most mode n None h e f = let x : ⊥ = cc f in absurd x
-counted_steps g outer bs ps begin least most mode n (Some qs) h e f =
-    let l : Last (counted begin least most mode) ps qs = count_takes (counted begin least most mode) ps qs e in
+counted_steps : (g : ℕ) (outer : List Frame) (bs ps : PlainTexts) (at least : ℕ) (most : Option ℕ) (mode : _) (n : State) (o : Option PlainTexts)
+    → IsState (state g outer bs ps) → count_last (counted at least most mode) ps ≡ o → counted_state g outer bs o ≡ Some n → Steps (state g outer bs ps) (count_token at least most mode) n
+counted_steps g outer bs ps at least most mode n None h e f = let x : ⊥ = cc f in absurd x
+counted_steps g outer bs ps at least most mode n (Some qs) h e f =
+    let l : Last (counted at least most mode) ps qs = count_takes (counted at least most mode) ps qs e in
     let i : state g outer bs qs ≡ n = cc f in
-    let c : PlainText = counted begin least most mode l.piece in
+    let c : PlainText = counted at least most mode l.piece in
     let k = pieces_split l.written (count_in outer + all_captures bs) l.piece (subst (λ v. ArePieces (count_in outer + all_captures bs) v) l.was h.2) in
     let s : IsState (state g outer bs (snoc l.written c)) =
     (h.0, h.1, pieces_snoc l.written (count_in outer + all_captures bs) c k.0 (l.takes, k.1), h.3 ∙ ap (λ v. count_in outer + all_captures bs + all_captures v) l.was ∙ omega (arith, captures_snoc l.written l.piece, captures_snoc l.written c)) in
-    let w : spelled (state g outer bs (snoc l.written c)) ≡ spelled (state g outer bs (snoc l.written l.piece)) ++ count_token begin least most mode ∷ [] =
-    pushed_tokens g g outer bs l.written c ∙ sym (append_assoc (spelled (state g outer bs l.written)) (tokens_of l.piece) (count_token begin least most mode ∷ []))
-    ∙ ap (λ v. v ++ count_token begin least most mode ∷ []) (sym (pushed_tokens g g outer bs l.written l.piece)) in
-    subst (λ m. Steps (state g outer bs ps) (count_token begin least most mode) m) (ap (state g outer bs) (sym l.now) ∙ i)
-    (record { is_read = s; spells = w ∙ ap (λ v. spelled (state g outer bs v) ++ count_token begin least most mode ∷ []) (sym l.was) })
+    let w : spelled (state g outer bs (snoc l.written c)) ≡ spelled (state g outer bs (snoc l.written l.piece)) ++ count_token at least most mode ∷ [] =
+    pushed_tokens g g outer bs l.written c ∙ sym (append_assoc (spelled (state g outer bs l.written)) (tokens_of l.piece) (count_token at least most mode ∷ []))
+    ∙ ap (λ v. v ++ count_token at least most mode ∷ []) (sym (pushed_tokens g g outer bs l.written l.piece)) in
+    subst (λ m. Steps (state g outer bs ps) (count_token at least most mode) m) (ap (state g outer bs) (sym l.now) ∙ i)
+    (record { is_read = s; spells = w ∙ ap (λ v. spelled (state g outer bs v) ++ count_token at least most mode ∷ []) (sym l.was) })
 
-closed_steps : (g : ℕ) (outer : List Frame) (bs ps : PlainTexts) (begin number : ℕ) (o : Opening) (around before : PlainTexts) (n : State) (r : Option PlainText)
-    → IsState (state g (frame begin o number around before ∷ outer) bs ps) → part_of o begin number bs ps ≡ r → closed_state g outer around before r ≡ Some n
-    → Steps (state g (frame begin o number around before ∷ outer) bs ps) close n
-closed_steps g outer bs ps begin number o around before n None h e f = let x : ⊥ = cc f in absurd x
-closed_steps g outer bs ps begin number o around before n (Some r) h e f =
+closed_steps : (g : ℕ) (outer : List Frame) (bs ps : PlainTexts) (at number : ℕ) (o : Opening) (around before : PlainTexts) (n : State) (r : Option PlainText)
+    → IsState (state g (frame at o number around before ∷ outer) bs ps) → part_of o at number bs ps ≡ r → closed_state g outer around before r ≡ Some n
+    → Steps (state g (frame at o number around before ∷ outer) bs ps) close n
+closed_steps g outer bs ps at number o around before n None h e f = let x : ⊥ = cc f in absurd x
+closed_steps g outer bs ps at number o around before n (Some r) h e f =
     let a : ℕ = count_in outer + all_captures around + all_captures before in
-    let p : Part a o begin bs ps r = part_is o a begin number bs ps r h.1 h.2 h.0.3 e in
+    let p : Part a o at bs ps r = part_is o a at number bs ps r h.1 h.2 h.0.3 e in
     let i : state g outer around (snoc before r) ≡ n = cc f in
-    subst (λ m. Steps (state g (frame begin o number around before ∷ outer) bs ps) close m) i
+    subst (λ m. Steps (state g (frame at o number around before ∷ outer) bs ps) close m) i
     (record {
       is_read = pushed a outer around before r g (h.0.0, h.0.1, h.0.2, refl) p.shape (omega (arith, h.3, p.counts));
       spells =
@@ -200,12 +200,12 @@ closed_steps g outer bs ps begin number o around before n (Some r) h e f =
 pub steps : (s : State) (t : Token) (n : State) → IsState s → step s t ≡ Some n → Steps s t n
 steps (state g outer bs ps) (unit_token test) n h e = one_pushed g outer bs ps (unit test) (unit_token test) n h tt refl refl e
 steps (state g outer bs ps) (anchor_token k) n h e = one_pushed g outer bs ps (anchor k) (anchor_token k) n h tt refl refl e
-steps (state g outer bs ps) (reference_token begin id) n h e = one_pushed g outer bs ps (reference begin id) (reference_token begin id) n h tt refl refl e
-steps (state g outer bs ps) (count_token begin least most mode) n h e =
-    counted_steps g outer bs ps begin least most mode n (count_last (counted begin least most mode) ps) h refl e
-steps (state g outer bs ps) (open_token begin o) n h e =
-    let i : state (g + groups_begun o) (frame begin o (g + 1) bs ps ∷ outer) done done ≡ n = cc e in
-    subst (λ m. Steps (state g outer bs ps) (open_token begin o) m) i
+steps (state g outer bs ps) (reference_token at id) n h e = one_pushed g outer bs ps (reference at id) (reference_token at id) n h tt refl refl e
+steps (state g outer bs ps) (count_token at least most mode) n h e =
+    counted_steps g outer bs ps at least most mode n (count_last (counted at least most mode) ps) h refl e
+steps (state g outer bs ps) (open_token at o) n h e =
+    let i : state (g + groups_begun o) (frame at o (g + 1) bs ps ∷ outer) done done ≡ n = cc e in
+    subst (λ m. Steps (state g outer bs ps) (open_token at o) m) i
     (record { is_read = ((h.0, h.1, h.2, ap (λ k. k + 1) h.3), tt, tt, omega (arith, h.3)); spells = append_nil _ ∙ simp append_assoc })
 steps (state g outer bs ps) bar n h e =
     let i : state g outer (snoc bs (sequence ps)) done ≡ n = cc e in
@@ -215,8 +215,8 @@ steps (state g outer bs ps) bar n h e =
       spells = ap (λ l. outer_tokens outer ++ l) (append_nil (bars (snoc bs (sequence ps))) ∙ bars_snoc bs (sequence ps)) ∙ simp append_assoc;
     })
 steps (state g [] bs ps) close n h e = let x : ⊥ = cc e in absurd x
-steps (state g (frame begin o number around before ∷ outer) bs ps) close n h e =
-    closed_steps g outer bs ps begin number o around before n (part_of o begin number bs ps) h refl e
+steps (state g (frame at o number around before ∷ outer) bs ps) close n h e =
+    closed_steps g outer bs ps at number o around before n (part_of o at number bs ps) h refl e
 
 none_on : (ts : List Token) (n : State) → run_on None ts ≡ Some n → ⊥
 none_on [] n e = cc e

@@ -5,7 +5,7 @@ use Rattle.re_tree.specs.declared.tree.CountMode.{CountMode}
 use Rattle.re_tree.specs.PlainText.{PlainTest, dot, dot_all, literal, set, GroupName, numbered, named, PlainText}
 use Rattle.re_tree.specs.Tokens.{Opening, capturing, non_capturing, atomic_opening, look_opening, conditional_opening, Token, unit_token, anchor_token, reference_token, count_token, open_token, bar, close, tokens_of}
 use Rattle.re_tree.specs.Grammar.{Flags, WritesBounds, by_sign, exactly, between, WritesCharacter, itself, brace, escaped_itself, escaped_letter, hexadecimal, WritesNumber, one, two, WritesOpening, WritesAnchor, line_anchor, letter_anchor, WritesSet, alone, in_brackets, IsToken, AreTokens, ReadsAs}
-use Rattle.re_tree.specs.Reading.{Found, front_token, put_token, token_then, all_tokens}
+use Rattle.re_tree.specs.Reading.{Found, first_token, put_token, token_then, all_tokens}
 use Rattle.re_tree.specs.Machine.{tree_of_tokens, tree_of_all, read_tree}
 use Rattle.re_tree.proofs.TokenReadLemmas.{token_read}
 use Rattle.re_tree.proofs.TokenWrittenLemmas.{Written, token_written}
@@ -57,21 +57,21 @@ token_long flags (unit_token dot_all) p written rest h = omega (arith, ap length
 token_long flags (unit_token (literal c)) p written rest h = character_long c written rest h
 token_long flags (unit_token (set negated items)) p written rest h = set_long flags negated items written rest h
 token_long flags (anchor_token k) p written rest h = anchor_long flags k written h
-token_long flags (reference_token begin (numbered n)) p written rest h = number_long n written rest h.1
-token_long flags (reference_token begin (named name)) p written rest h = omega (arith, ap length h.2)
-token_long flags (count_token begin least most mode) p written rest h =
+token_long flags (reference_token at (numbered n)) p written rest h = number_long n written rest h.1
+token_long flags (reference_token at (named name)) p written rest h = omega (arith, ap length h.2)
+token_long flags (count_token at least most mode) p written rest h =
     let k : 1 ≤ length (h.1 ++ h.2) = bounds_long least most h.1 h.2 h.3 in omega (arith, k, ap length h.5)
-token_long flags (open_token begin opening) p written rest h = opening_long opening written rest h.1
+token_long flags (open_token at opening) p written rest h = opening_long opening written rest h.1
 token_long flags bar p written rest h = omega (arith, ap length h)
 token_long flags close p written rest h = omega (arith, ap length h)
 
 -- one step of reading all tokens
 pub step_at : (flags : Flags) (whole n p : ℕ) (text : List ℕ) (t : Token) (rest : List ℕ) → 1 ≤ length text → p + length text ≡ whole
-    → front_token flags p text ≡ Some (t, rest) → all_tokens flags whole (suc n) text ≡ put_token t (all_tokens flags whole n rest)
+    → first_token flags p text ≡ Some (t, rest) → all_tokens flags whole (suc n) text ≡ put_token t (all_tokens flags whole n rest)
 step_at flags whole n p [] t rest h e f = let x : ⊥ = omega (arith, h) in absurd x
 step_at flags whole n p (c ∷ cs) t rest h e f =
     let q : whole - length (c ∷ cs) ≡ p = omega (arith, e) in
-    ap (λ o. token_then o (all_tokens flags whole n)) (ap (λ k. front_token flags k (c ∷ cs)) q ∙ f)
+    ap (λ o. token_then o (all_tokens flags whole n)) (ap (λ k. first_token flags k (c ∷ cs)) q ∙ f)
 
 all_read : (ts : List Token) (flags : Flags) (whole n p : ℕ) (text : List ℕ) → AreTokens flags p ts text → p + length text ≡ whole → length text ≤ n → all_tokens flags whole n text ≡ Some ts
 all_read [] flags whole n p text h e le = ap (all_tokens flags whole n) h
@@ -81,7 +81,7 @@ all_read (t ∷ ts) flags whole zero p text h e le =
 all_read (t ∷ ts) flags whole (suc n) p text h e le =
     let k : 1 ≤ length h.0 = token_long flags t p h.0 h.1 h.3 in
     let s : length text ≡ length h.0 + length h.1 = ap length h.2 ∙ length-append h.0 h.1 in
-    step_at flags whole n p text t h.1 (omega (arith, k, s)) e (ap (front_token flags p) h.2 ∙ token_read flags t p h.0 h.1 h.3)
+    step_at flags whole n p text t h.1 (omega (arith, k, s)) e (ap (first_token flags p) h.2 ∙ token_read flags t p h.0 h.1 h.3)
     ∙ ap (put_token t) (all_read ts flags whole n (p + length h.0) h.1 h.4 (omega (arith, e, s)) (omega (arith, le, s, k)))
 
 -- and what all tokens are
@@ -91,7 +91,7 @@ put_is t (Some us) ts e = (us, refl, cc e)
 
 then_written : (flags : Flags) (whole n p : ℕ) (c : ℕ) (cs : List ℕ) (ts : List Token) (o : Found) → p + length (c ∷ cs) ≡ whole
     → ((q : ℕ) (rest : List ℕ) (us : List Token) → q + length rest ≡ whole → all_tokens flags whole n rest ≡ Some us → AreTokens flags q us rest)
-    → front_token flags p (c ∷ cs) ≡ o → token_then o (all_tokens flags whole n) ≡ Some ts → AreTokens flags p ts (c ∷ cs)
+    → first_token flags p (c ∷ cs) ≡ o → token_then o (all_tokens flags whole n) ≡ Some ts → AreTokens flags p ts (c ∷ cs)
 then_written flags whole n p c cs ts None e ih f g = let x : ⊥ = cc g in absurd x
 then_written flags whole n p c cs ts (Some x) e ih f g =
     let k : Written flags p (c ∷ cs) x.0 x.1 = token_written flags p (c ∷ cs) x.0 x.1 f in
@@ -106,8 +106,8 @@ all_written zero flags whole p (c ∷ cs) ts e f = let x : ⊥ = cc f in absurd 
 all_written (suc n) flags whole p [] ts e f = let i : [] ≡ ts = cc f in subst (λ l. AreTokens flags p l []) i refl
 all_written (suc n) flags whole p (c ∷ cs) ts e f =
     let q : whole - length (c ∷ cs) ≡ p = omega (arith, e) in
-    then_written flags whole n p c cs ts (front_token flags p (c ∷ cs)) e (λ r rest us. all_written n flags whole r rest us) refl
-    (ap (λ k. token_then (front_token flags k (c ∷ cs)) (all_tokens flags whole n)) (sym q) ∙ f)
+    then_written flags whole n p c cs ts (first_token flags p (c ∷ cs)) e (λ r rest us. all_written n flags whole r rest us) refl
+    (ap (λ k. token_then (first_token flags k (c ∷ cs)) (all_tokens flags whole n)) (sym q) ∙ f)
 
 -- the grammar and the reader say the same
 pub reads : (text : List ℕ) (flags : Flags) (r : PlainText) → ReadsAs text flags r → read_tree flags text ≡ Some r

@@ -1,4 +1,4 @@
--- What is read at the front of a text is a token there.
+-- What is read as the first token of a text is a token there.
 use Rattle.std.proofs.Common.{◌≡◌, refl, sym, ◌∙◌, ap, subst, ℕ, zero, suc, ◌+◌, ◌-◌, ◌*◌, ◌==◌, ◌≤◌, Bool, true, false, not, List, [], ◌∷◌, ◌++◌, append_assoc, length, arith}
 use Rattle.std.specs.Prelude.{Option, Some, None, cond, ◌&&◌, ◌||◌, codes}
 use Rattle.std.proofs.lemmas.Bool.{eqb-true}
@@ -14,7 +14,7 @@ use Rattle.re_tree.specs.Sets.{AreItems, Items, items_at, caret_if}
 use Rattle.re_tree.proofs.SetLemmas.{items_written, items_split}
 use Rattle.re_tree.specs.Characters.{read_hex, if_flag, is_digit, is_octal, is_ascii_non_alphanumeric, first_is}
 use Rattle.re_tree.specs.Grammar.{Flags, is_first_digit, has, WritesBounds, by_sign, WritesMode, BeginsNoCount, WritesCharacter, itself, brace, escaped_itself, escaped_letter, hexadecimal, id_of, WritesNumber, one, two, WritesOpening, WritesAnchor, line_anchor, letter_anchor, WritesSet, alone, in_brackets, WritesTest, IsToken}
-use Rattle.re_tree.specs.Reading.{Found, if_dotall, Bounds, read_bounds, with_mode, brace_token, add_front, up_to, named_opening, named_reference, named_conditional, name_token, lookbehind_token, extension_token, extended, opening_token, number_token, letter_token, escape_token, sign_token, front_token, set_token, bracket_token, hex_token}
+use Rattle.re_tree.specs.Reading.{Found, if_dotall, Bounds, read_bounds, with_mode, brace_token, add_first, up_to, named_opening, named_reference, named_conditional, name_token, lookbehind_token, extension_token, extended, opening_token, number_token, letter_token, escape_token, sign_token, first_token, set_token, bracket_token, hex_token}
 use Rattle.re_tree.proofs.HexLemmas.{HexWritten, hex_written}
 use Rattle.re_tree.proofs.TableLemmas.{key_is}
 use Rattle.re_tree.proofs.BoundLemmas.{cond_true, cond_false, exactly_read, between_read, Bounded, read_is, append_nil}
@@ -101,7 +101,7 @@ abbrev pair_of : Option (List ℕ × List ℕ) → List ℕ × List ℕ
 pair_of None = ([], [])
 pair_of (Some x) = x
 
-up_more : (e c : ℕ) (cs name x : List ℕ) (o : Option (List ℕ × List ℕ)) → (c == e) ≡ false → ((n y : List ℕ) → o ≡ Some (n, y) → Upto e cs n y) → add_front c o ≡ Some (name, x) → Upto e (c ∷ cs) name x
+up_more : (e c : ℕ) (cs name x : List ℕ) (o : Option (List ℕ × List ℕ)) → (c == e) ≡ false → ((n y : List ℕ) → o ≡ Some (n, y) → Upto e cs n y) → add_first c o ≡ Some (name, x) → Upto e (c ∷ cs) name x
 up_more e c cs name x None f h g = let y : ⊥ = cc g in absurd y
 up_more e c cs name x (Some z) f h g =
     let k : Upto e cs z.0 z.1 = h z.0 z.1 refl in
@@ -114,10 +114,10 @@ up_to_is e (c ∷ cs) name x h = at (up_to_is e cs) (c == e) refl
   where
     at : ((n y : List ℕ) → up_to e cs ≡ Some (n, y) → Upto e cs n y) → (b : Bool) → (c == e) ≡ b → Upto e (c ∷ cs) name x
     at ih true f =
-        let g = sym (cond_true (c == e) (Some ([], cs)) (add_front c (up_to e cs)) f) ∙ h in
+        let g = sym (cond_true (c == e) (Some ([], cs)) (add_first c (up_to e cs)) f) ∙ h in
         subst (λ (y : List ℕ × List ℕ). Upto e (c ∷ cs) y.0 y.1) (ap pair_of g)
         (record { is = ap (λ k. k ∷ cs) (eqb-true c e f); lacks = refl })
-    at ih false f = up_more e c cs name x (up_to e cs) f ih (sym (cond_false (c == e) (Some ([], cs)) (add_front c (up_to e cs)) f) ∙ h)
+    at ih false f = up_more e c cs name x (up_to e cs) f ih (sym (cond_false (c == e) (Some ([], cs)) (add_first c (up_to e cs)) f) ∙ h)
 
 named_written : (flags : Flags) (p : ℕ) (cs : List ℕ) (t : Token) (rest : List ℕ) (o : Option (List ℕ × List ℕ)) → up_to 62 cs ≡ o → named_opening p o ≡ Some (t, rest) → Written flags p (40 ∷ 63 ∷ 80 ∷ 60 ∷ cs) t rest
 named_written flags p cs t rest None u e = none_given t rest e
@@ -309,6 +309,6 @@ sign_written flags p c cs t rest (Some closes) f e =
 sign_written flags p c cs t rest (Some splits) f e =
     given flags p (c ∷ cs) t bar rest cs e (record { written = c ∷ []; is = refl; token = ap (λ k. k ∷ []) (key_is sign_key signs c splits refl f) })
 
-pub token_written : (flags : Flags) (p : ℕ) (text : List ℕ) (t : Token) (rest : List ℕ) → front_token flags p text ≡ Some (t, rest) → Written flags p text t rest
+pub token_written : (flags : Flags) (p : ℕ) (text : List ℕ) (t : Token) (rest : List ℕ) → first_token flags p text ≡ Some (t, rest) → Written flags p text t rest
 token_written flags p [] t rest e = none_given t rest e
 token_written flags p (c ∷ cs) t rest e = sign_written flags p c cs t rest (find signs c) refl e

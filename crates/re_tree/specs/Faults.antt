@@ -20,8 +20,8 @@ rank BadReference = 4
 rank NotFixedWidth = 5
 
 abbrev pub only_if : Bool → ℕ → FaultKind → List Fault
-only_if true begin kind = record { begin = begin; kind = kind } ∷ []
-only_if false begin kind = []
+only_if true at kind = record { at = at; kind = kind } ∷ []
+only_if false at kind = []
 
 -- where a part is: inside how many parentheses, after which names, and after the ends of which
 -- groups
@@ -47,15 +47,15 @@ is_identifier (c ∷ cs) = is_id_start c && list_all is_id_continue cs
 -- the numbers of the groups of a part, in the order in which they end
 abbrev mutual
   pub numbers_of : PlainText → List ℕ
-  numbers_of (conditional begin id met) = numbers_of met
-  numbers_of (conditional_else begin id met other) = numbers_of met ++ numbers_of other
+  numbers_of (conditional at id met) = numbers_of met
+  numbers_of (conditional_else at id met other) = numbers_of met ++ numbers_of other
   numbers_of (sequence parts) = all_numbers parts
   numbers_of (alternation branches) = all_numbers branches
-  numbers_of (counted begin least most mode body) = numbers_of body
-  numbers_of (capture begin number name body) = numbers_of body ++ number ∷ []
-  numbers_of (plain begin body) = numbers_of body
-  numbers_of (atomic_text begin body) = numbers_of body
-  numbers_of (look_text begin positive back body) = numbers_of body
+  numbers_of (counted at least most mode body) = numbers_of body
+  numbers_of (capture at number name body) = numbers_of body ++ number ∷ []
+  numbers_of (plain at body) = numbers_of body
+  numbers_of (atomic_text at body) = numbers_of body
+  numbers_of (look_text at positive back body) = numbers_of body
   numbers_of _ = []
 
   pub all_numbers : PlainTexts → List ℕ
@@ -85,30 +85,30 @@ is_closed w (named name) = has_number (find_name w.names name) w.closed
 
 -- a parenthesis inside too many others
 abbrev pub deep : Where → ℕ → List Fault
-deep w begin = only_if (nat_le MAX_PARENTHESES w.depth) begin TooDeep
+deep w at = only_if (nat_le MAX_PARENTHESES w.depth) at TooDeep
 
 -- a back reference: `(?P=name)` begins with a parenthesis, and `\1` does not
 abbrev pub at_reference : Where → ℕ → GroupName → List Fault
-at_reference w begin (numbered n) = only_if (not (is_closed w (numbered n))) begin BadReference
-at_reference w begin (named name) = deep w begin ++ (only_if (not (is_identifier name)) begin BadName ++ only_if (not (is_closed w (named name))) begin BadReference)
+at_reference w at (numbered n) = only_if (not (is_closed w (numbered n))) at BadReference
+at_reference w at (named name) = deep w at ++ (only_if (not (is_identifier name)) at BadName ++ only_if (not (is_closed w (named name))) at BadReference)
 
 -- an opening, where a group that it begins has this number; the number of a conditional is tested
 -- at the end of the pattern
 abbrev pub of_opening : Where → ℕ → ℕ → Opening → List Fault
-of_opening w begin number (capturing None) = only_if (nat_lt MAX_GROUPS number) begin TooManyGroups
-of_opening w begin number (capturing (Some name)) = only_if (nat_lt MAX_GROUPS number) begin TooManyGroups ++ only_if (not (is_identifier name) || has_name w.names name) begin BadName
-of_opening w begin number (conditional_opening (named name)) = only_if (not (is_identifier name)) begin BadName ++ only_if (not (has_name w.names name)) begin BadReference
-of_opening w begin number _ = []
+of_opening w at number (capturing None) = only_if (nat_lt MAX_GROUPS number) at TooManyGroups
+of_opening w at number (capturing (Some name)) = only_if (nat_lt MAX_GROUPS number) at TooManyGroups ++ only_if (not (is_identifier name) || has_name w.names name) at BadName
+of_opening w at number (conditional_opening (named name)) = only_if (not (is_identifier name)) at BadName ++ only_if (not (has_name w.names name)) at BadReference
+of_opening w at number _ = []
 
 abbrev pub at_opening : Where → ℕ → ℕ → Opening → List Fault
-at_opening w begin number opening = deep w begin ++ of_opening w begin number opening
+at_opening w at number opening = deep w at ++ of_opening w at number opening
 
 abbrev pub is_bad_count : ℕ → Option ℕ → Bool
 is_bad_count least None = nat_lt MAX_COUNT least
 is_bad_count least (Some most) = nat_lt MAX_COUNT least || nat_lt MAX_COUNT most || nat_lt most least
 
 abbrev pub at_count : ℕ → ℕ → Option ℕ → List Fault
-at_count begin least most = only_if (is_bad_count least most) begin BadCount
+at_count at least most = only_if (is_bad_count least most) at BadCount
 
 -- no width, or one that no code word holds
 abbrev pub is_wide : Option ℕ → Bool
@@ -117,26 +117,26 @@ is_wide (Some k) = nat_lt MAX_WIDTH k
 
 -- the end of a part, whose body has this width
 abbrev pub at_close : ℕ → Opening → Option ℕ → List Fault
-at_close begin (look_opening positive true) w = only_if (is_wide w) begin NotFixedWidth
-at_close begin _ w = []
+at_close at (look_opening positive true) w = only_if (is_wide w) at NotFixedWidth
+at_close at _ w = []
 
 -- the faults of a part, in the order in which they are seen
 abbrev mutual
   pub faults : Where → PlainText → List Fault
   faults w (unit test) = []
   faults w (anchor k) = []
-  faults w (reference begin id) = at_reference w begin id
-  faults w (conditional begin id met) = at_opening w begin 0 (conditional_opening id) ++ faults (inside w 0 (conditional_opening id)) met
-  faults w (conditional_else begin id met other) =
-      at_opening w begin 0 (conditional_opening id) ++ (faults (inside w 0 (conditional_opening id)) met ++ faults (after (inside w 0 (conditional_opening id)) met) other)
+  faults w (reference at id) = at_reference w at id
+  faults w (conditional at id met) = at_opening w at 0 (conditional_opening id) ++ faults (inside w 0 (conditional_opening id)) met
+  faults w (conditional_else at id met other) =
+      at_opening w at 0 (conditional_opening id) ++ (faults (inside w 0 (conditional_opening id)) met ++ faults (after (inside w 0 (conditional_opening id)) met) other)
   faults w (sequence parts) = faults_in_turn w parts
   faults w (alternation branches) = faults_in_turn w branches
-  faults w (counted begin least most mode body) = faults w body ++ at_count begin least most
-  faults w (capture begin number name body) = at_opening w begin number (capturing name) ++ faults (inside w number (capturing name)) body
-  faults w (plain begin body) = at_opening w begin 0 non_capturing ++ faults (inside w 0 non_capturing) body
-  faults w (atomic_text begin body) = at_opening w begin 0 atomic_opening ++ faults (inside w 0 atomic_opening) body
-  faults w (look_text begin positive back body) =
-      at_opening w begin 0 (look_opening positive back) ++ (faults (inside w 0 (look_opening positive back)) body ++ at_close begin (look_opening positive back) (width body))
+  faults w (counted at least most mode body) = faults w body ++ at_count at least most
+  faults w (capture at number name body) = at_opening w at number (capturing name) ++ faults (inside w number (capturing name)) body
+  faults w (plain at body) = at_opening w at 0 non_capturing ++ faults (inside w 0 non_capturing) body
+  faults w (atomic_text at body) = at_opening w at 0 atomic_opening ++ faults (inside w 0 atomic_opening) body
+  faults w (look_text at positive back body) =
+      at_opening w at 0 (look_opening positive back) ++ (faults (inside w 0 (look_opening positive back)) body ++ at_close at (look_opening positive back) (width body))
 
   pub faults_in_turn : Where → PlainTexts → List Fault
   faults_in_turn w done = []
@@ -144,20 +144,20 @@ abbrev mutual
 
 -- the conditionals by number: their places and numbers
 abbrev pub conditional_of : ℕ → GroupName → List (ℕ × ℕ)
-conditional_of begin (numbered n) = (begin, n) ∷ []
-conditional_of begin (named name) = []
+conditional_of at (numbered n) = (at, n) ∷ []
+conditional_of at (named name) = []
 
 abbrev mutual
   pub conditionals : PlainText → List (ℕ × ℕ)
-  conditionals (conditional begin id met) = conditional_of begin id ++ conditionals met
-  conditionals (conditional_else begin id met other) = conditional_of begin id ++ (conditionals met ++ conditionals other)
+  conditionals (conditional at id met) = conditional_of at id ++ conditionals met
+  conditionals (conditional_else at id met other) = conditional_of at id ++ (conditionals met ++ conditionals other)
   conditionals (sequence parts) = all_conditionals parts
   conditionals (alternation branches) = all_conditionals branches
-  conditionals (counted begin least most mode body) = conditionals body
-  conditionals (capture begin number name body) = conditionals body
-  conditionals (plain begin body) = conditionals body
-  conditionals (atomic_text begin body) = conditionals body
-  conditionals (look_text begin positive back body) = conditionals body
+  conditionals (counted at least most mode body) = conditionals body
+  conditionals (capture at number name body) = conditionals body
+  conditionals (plain at body) = conditionals body
+  conditionals (atomic_text at body) = conditionals body
+  conditionals (look_text at positive back body) = conditionals body
   conditionals _ = []
 
   pub all_conditionals : PlainTexts → List (ℕ × ℕ)
@@ -174,7 +174,7 @@ conditional_faults all (x ∷ xs) = only_if (is_past all x.1) x.0 BadReference +
 
 -- one comes before another where its place is less, or at one place its kind
 abbrev pub is_before : Fault → Fault → Bool
-is_before a b = nat_lt a.begin b.begin || (a.begin == b.begin && nat_lt (rank a.kind) (rank b.kind))
+is_before a b = nat_lt a.at b.at || (a.at == b.at && nat_lt (rank a.kind) (rank b.kind))
 
 abbrev pub the_first : Fault → Option Fault → Option Fault
 the_first a None = Some a
@@ -193,9 +193,9 @@ abbrev pub fault_of : PlainText → Option Fault
 fault_of r = first_of (all_faults r)
 
 -- what is found in a pattern: nothing where it has no tree, and else its first fault, if it has one
-abbrev pub Verdict : Type 0
-Verdict = Option (Option Fault)
+abbrev pub Diagnosis : Type 0
+Diagnosis = Option (Option Fault)
 
-abbrev pub verdict_of : Option PlainText → Verdict
-verdict_of None = None
-verdict_of (Some r) = Some (fault_of r)
+abbrev pub diagnosis_of : Option PlainText → Diagnosis
+diagnosis_of None = None
+diagnosis_of (Some r) = Some (fault_of r)

@@ -16,12 +16,12 @@ use Rattle.re_tree.specs.Tokens.{Opening, capturing, non_capturing, atomic_openi
 -- what may have a count after it
 abbrev pub is_countable : PlainText → Bool
 is_countable (unit test) = true
-is_countable (reference begin id) = true
-is_countable (conditional begin id met) = true
-is_countable (conditional_else begin id met other) = true
-is_countable (capture begin number name body) = true
-is_countable (plain begin body) = true
-is_countable (atomic_text begin body) = true
+is_countable (reference at id) = true
+is_countable (conditional at id met) = true
+is_countable (conditional_else at id met other) = true
+is_countable (capture at number name body) = true
+is_countable (plain at body) = true
+is_countable (atomic_text at body) = true
 is_countable _ = false
 
 -- after g groups: a branch is pieces, a regex its one branch or two and more, and groups are
@@ -40,15 +40,15 @@ abbrev mutual
   pub IsPiece : ℕ → PlainText → Type 0
   IsPiece g (unit test) = Unit {0}
   IsPiece g (anchor k) = Unit {0}
-  IsPiece g (reference begin id) = Unit {0}
-  IsPiece g (conditional begin id met) = IsBranch g met
-  IsPiece g (conditional_else begin id met other) = IsBranch g met
+  IsPiece g (reference at id) = Unit {0}
+  IsPiece g (conditional at id met) = IsBranch g met
+  IsPiece g (conditional_else at id met other) = IsBranch g met
       × IsBranch (g + captures met) other
-  IsPiece g (counted begin least most mode body) = (is_countable body ≡ true) × IsPiece g body
-  IsPiece g (capture begin number name body) = (number ≡ g + 1) × IsRegex (g + 1) body
-  IsPiece g (plain begin body) = IsRegex g body
-  IsPiece g (atomic_text begin body) = IsRegex g body
-  IsPiece g (look_text begin positive back body) = IsRegex g body
+  IsPiece g (counted at least most mode body) = (is_countable body ≡ true) × IsPiece g body
+  IsPiece g (capture at number name body) = (number ≡ g + 1) × IsRegex (g + 1) body
+  IsPiece g (plain at body) = IsRegex g body
+  IsPiece g (atomic_text at body) = IsRegex g body
+  IsPiece g (look_text at positive back body) = IsRegex g body
   IsPiece g _ = ⊥
 
   pub ArePieces : ℕ → PlainTexts → Type 0
@@ -178,14 +178,14 @@ WritesTest flags (set negated items) written rest = WritesSet flags negated item
 abbrev pub IsToken : Flags → Token → ℕ → List ℕ → List ℕ → Type 0
 IsToken flags (unit_token test) p written rest = WritesTest flags test written rest
 IsToken flags (anchor_token k) p written rest = WritesAnchor flags k written
-IsToken flags (reference_token begin (numbered n)) p written rest = (begin ≡ p)
+IsToken flags (reference_token at (numbered n)) p written rest = (at ≡ p)
     × WritesNumber n written rest
-IsToken flags (reference_token begin (named name)) p written rest = (begin ≡ p)
+IsToken flags (reference_token at (named name)) p written rest = (at ≡ p)
     × (has 41 name ≡ false) × (written ≡ codes "(?P=" ++ (name ++ 41 ∷ []))
-IsToken flags (count_token begin least most mode) p written rest =
-    (begin ≡ p) × (bounds : List ℕ) × (tail : List ℕ) × WritesBounds least most bounds
+IsToken flags (count_token at least most mode) p written rest =
+    (at ≡ p) × (bounds : List ℕ) × (tail : List ℕ) × WritesBounds least most bounds
     × WritesMode mode tail rest × (written ≡ bounds ++ tail)
-IsToken flags (open_token begin opening) p written rest = (begin ≡ p)
+IsToken flags (open_token at opening) p written rest = (at ≡ p)
     × WritesOpening opening written rest
 IsToken flags bar p written rest = written ≡ codes "|"
 IsToken flags close p written rest = written ≡ codes ")"

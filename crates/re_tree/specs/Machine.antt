@@ -11,7 +11,7 @@ snoc (r also rs) q = r also snoc rs q
 
 -- what was open around an opening, and the number of a group that it begins
 pub data Frame : Type 0 where
-  frame : (begin : ℕ) (opening : Opening) (number : ℕ) (branches pieces : PlainTexts) → Frame
+  frame : (at : ℕ) (opening : Opening) (number : ℕ) (branches pieces : PlainTexts) → Frame
 
 -- the groups so far, what is open, and the branches and the pieces of the innermost
 pub data State : Type 0 where
@@ -21,9 +21,9 @@ abbrev pub groups_begun : Opening → ℕ
 groups_begun (capturing name) = 1
 groups_begun _ = 0
 
-abbrev pub put_front : PlainText → Option PlainTexts → Option PlainTexts
-put_front r None = None
-put_front r (Some rs) = Some (r also rs)
+abbrev pub put_first : PlainText → Option PlainTexts → Option PlainTexts
+put_first r None = None
+put_first r (Some rs) = Some (r also rs)
 
 abbrev pub one_if : Bool → PlainText → Option PlainTexts
 one_if true r = Some (r also done)
@@ -33,7 +33,7 @@ one_if false r = None
 abbrev pub count_last : (PlainText → PlainText) → PlainTexts → Option PlainTexts
 count_last f done = None
 count_last f (r also done) = one_if (is_countable r) (f r)
-count_last f (r also q also rs) = put_front r (count_last f (q also rs))
+count_last f (r also q also rs) = put_first r (count_last f (q also rs))
 
 abbrev pub regex_of : PlainTexts → PlainTexts → PlainText
 regex_of done pieces = sequence pieces
@@ -41,13 +41,13 @@ regex_of (r also rs) pieces = alternation (snoc (r also rs) (sequence pieces))
 
 -- what an opening with its branches is; a conditional has at most two
 abbrev pub part_of : Opening → ℕ → ℕ → PlainTexts → PlainTexts → Option PlainText
-part_of (capturing name) begin number branches pieces = Some (capture begin number name (regex_of branches pieces))
-part_of non_capturing begin number branches pieces = Some (plain begin (regex_of branches pieces))
-part_of atomic_opening begin number branches pieces = Some (atomic_text begin (regex_of branches pieces))
-part_of (look_opening positive back) begin number branches pieces = Some (look_text begin positive back (regex_of branches pieces))
-part_of (conditional_opening id) begin number done pieces = Some (conditional begin id (sequence pieces))
-part_of (conditional_opening id) begin number (r also done) pieces = Some (conditional_else begin id r (sequence pieces))
-part_of (conditional_opening id) begin number (r also q also rs) pieces = None
+part_of (capturing name) at number branches pieces = Some (capture at number name (regex_of branches pieces))
+part_of non_capturing at number branches pieces = Some (plain at (regex_of branches pieces))
+part_of atomic_opening at number branches pieces = Some (atomic_text at (regex_of branches pieces))
+part_of (look_opening positive back) at number branches pieces = Some (look_text at positive back (regex_of branches pieces))
+part_of (conditional_opening id) at number done pieces = Some (conditional at id (sequence pieces))
+part_of (conditional_opening id) at number (r also done) pieces = Some (conditional_else at id r (sequence pieces))
+part_of (conditional_opening id) at number (r also q also rs) pieces = None
 
 abbrev pub counted_state : ℕ → List Frame → PlainTexts → Option PlainTexts → Option State
 counted_state g outer branches None = None
@@ -59,17 +59,17 @@ closed_state g outer branches pieces (Some r) = Some (state g outer branches (sn
 
 abbrev pub close_frame : ℕ → List Frame → PlainTexts → PlainTexts → Option State
 close_frame g [] branches pieces = None
-close_frame g (frame begin opening number around before ∷ outer) branches pieces =
-    closed_state g outer around before (part_of opening begin number branches pieces)
+close_frame g (frame at opening number around before ∷ outer) branches pieces =
+    closed_state g outer around before (part_of opening at number branches pieces)
 
 abbrev pub step : State → Token → Option State
 step (state g outer branches pieces) (unit_token test) = Some (state g outer branches (snoc pieces (unit test)))
 step (state g outer branches pieces) (anchor_token k) = Some (state g outer branches (snoc pieces (anchor k)))
-step (state g outer branches pieces) (reference_token begin id) = Some (state g outer branches (snoc pieces (reference begin id)))
-step (state g outer branches pieces) (count_token begin least most mode) =
-    counted_state g outer branches (count_last (counted begin least most mode) pieces)
-step (state g outer branches pieces) (open_token begin opening) =
-    Some (state (g + groups_begun opening) (frame begin opening (g + 1) branches pieces ∷ outer) done done)
+step (state g outer branches pieces) (reference_token at id) = Some (state g outer branches (snoc pieces (reference at id)))
+step (state g outer branches pieces) (count_token at least most mode) =
+    counted_state g outer branches (count_last (counted at least most mode) pieces)
+step (state g outer branches pieces) (open_token at opening) =
+    Some (state (g + groups_begun opening) (frame at opening (g + 1) branches pieces ∷ outer) done done)
 step (state g outer branches pieces) bar = Some (state g outer (snoc branches (sequence pieces)) done)
 step (state g outer branches pieces) close = close_frame g outer branches pieces
 

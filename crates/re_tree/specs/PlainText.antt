@@ -23,16 +23,16 @@ mutual
   pub data PlainText : Type 0 where
     unit : (test : PlainTest) → PlainText
     anchor : (k : ℕ) → PlainText
-    reference : (begin : ℕ) (id : GroupName) → PlainText
-    conditional : (begin : ℕ) (id : GroupName) (met : PlainText) → PlainText
-    conditional_else : (begin : ℕ) (id : GroupName) (met other : PlainText) → PlainText
+    reference : (at : ℕ) (id : GroupName) → PlainText
+    conditional : (at : ℕ) (id : GroupName) (met : PlainText) → PlainText
+    conditional_else : (at : ℕ) (id : GroupName) (met other : PlainText) → PlainText
     sequence : (parts : PlainTexts) → PlainText
     alternation : (branches : PlainTexts) → PlainText
-    counted : (begin least : ℕ) (most : Option ℕ) (mode : CountMode) (body : PlainText) → PlainText
-    capture : (begin number : ℕ) (name : Option (List ℕ)) (body : PlainText) → PlainText
-    plain : (begin : ℕ) (body : PlainText) → PlainText
-    atomic_text : (begin : ℕ) (body : PlainText) → PlainText
-    look_text : (begin : ℕ) (positive back : Bool) (body : PlainText) → PlainText
+    counted : (at least : ℕ) (most : Option ℕ) (mode : CountMode) (body : PlainText) → PlainText
+    capture : (at number : ℕ) (name : Option (List ℕ)) (body : PlainText) → PlainText
+    plain : (at : ℕ) (body : PlainText) → PlainText
+    atomic_text : (at : ℕ) (body : PlainText) → PlainText
+    look_text : (at : ℕ) (positive back : Bool) (body : PlainText) → PlainText
 
   pub data PlainTexts : Type 0 where
     done : PlainTexts
@@ -58,15 +58,15 @@ name_of (Some name) n = (name, n) ∷ []
 
 abbrev mutual
   pub names_of : PlainText → Names
-  names_of (conditional begin id met) = names_of met
-  names_of (conditional_else begin id met other) = names_of met ++ names_of other
+  names_of (conditional at id met) = names_of met
+  names_of (conditional_else at id met other) = names_of met ++ names_of other
   names_of (sequence parts) = all_names parts
   names_of (alternation branches) = all_names branches
-  names_of (counted begin least most mode body) = names_of body
-  names_of (capture begin number name body) = name_of name number ++ names_of body
-  names_of (plain begin body) = names_of body
-  names_of (atomic_text begin body) = names_of body
-  names_of (look_text begin positive back body) = names_of body
+  names_of (counted at least most mode body) = names_of body
+  names_of (capture at number name body) = name_of name number ++ names_of body
+  names_of (plain at body) = names_of body
+  names_of (atomic_text at body) = names_of body
+  names_of (look_text at positive back body) = names_of body
   names_of _ = []
 
   pub all_names : PlainTexts → Names
@@ -76,15 +76,15 @@ abbrev mutual
 -- how many groups a pattern captures
 abbrev mutual
   pub captures : PlainText → ℕ
-  captures (conditional begin id met) = captures met
-  captures (conditional_else begin id met other) = captures met + captures other
+  captures (conditional at id met) = captures met
+  captures (conditional_else at id met other) = captures met + captures other
   captures (sequence parts) = all_captures parts
   captures (alternation branches) = all_captures branches
-  captures (counted begin least most mode body) = captures body
-  captures (capture begin number name body) = captures body + 1
-  captures (plain begin body) = captures body
-  captures (atomic_text begin body) = captures body
-  captures (look_text begin positive back body) = captures body
+  captures (counted at least most mode body) = captures body
+  captures (capture at number name body) = captures body + 1
+  captures (plain at body) = captures body
+  captures (atomic_text at body) = captures body
+  captures (look_text at positive back body) = captures body
   captures _ = 0
 
   pub all_captures : PlainTexts → ℕ

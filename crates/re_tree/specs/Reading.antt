@@ -19,7 +19,7 @@ abbrev pub if_dotall : Bool → PlainTest
 if_dotall true = dot_all
 if_dotall false = dot
 
--- the digits at the front, and what is left
+-- the digits that the text begins with, and what is left
 abbrev pub digits_of : List ℕ → List ℕ
 digits_of [] = []
 digits_of (c ∷ cs) = cond (is_digit c) (c ∷ digits_of cs) []
@@ -58,13 +58,13 @@ brace_token p cs None = (unit_token (literal 123), cs)
 brace_token p cs (Some b) = with_mode p b.0 b.1 b.2
 
 -- a name up to the next c, and what is left after that
-abbrev pub add_front : ℕ → Option (List ℕ × List ℕ) → Option (List ℕ × List ℕ)
-add_front c None = None
-add_front c (Some x) = Some (c ∷ x.0, x.1)
+abbrev pub add_first : ℕ → Option (List ℕ × List ℕ) → Option (List ℕ × List ℕ)
+add_first c None = None
+add_first c (Some x) = Some (c ∷ x.0, x.1)
 
 abbrev pub up_to : ℕ → List ℕ → Option (List ℕ × List ℕ)
 up_to e [] = None
-up_to e (c ∷ cs) = cond (c == e) (Some ([], cs)) (add_front c (up_to e cs))
+up_to e (c ∷ cs) = cond (c == e) (Some ([], cs)) (add_first c (up_to e cs))
 
 abbrev pub named_opening : ℕ → Option (List ℕ × List ℕ) → Found
 named_opening p None = None
@@ -151,10 +151,10 @@ sign_token (Some opens) flags p c cs = opening_token p cs
 sign_token (Some closes) flags p c cs = Some (close, cs)
 sign_token (Some splits) flags p c cs = Some (bar, cs)
 
--- the token at the front of the text, whose place is p, where it has one
-abbrev pub front_token : Flags → ℕ → List ℕ → Found
-front_token flags p [] = None
-front_token flags p (c ∷ cs) = sign_token (find signs c) flags p c cs
+-- the token that the text, whose place is p, begins with, where there is one
+abbrev pub first_token : Flags → ℕ → List ℕ → Found
+first_token flags p [] = None
+first_token flags p (c ∷ cs) = sign_token (find signs c) flags p c cs
 
 -- what is next in a pattern
 pub data Lexed : Type 0 where
@@ -168,7 +168,7 @@ lexed_as (Some x) = lexed x.0 x.1
 
 abbrev pub next_token : Flags → ℕ → List ℕ → Lexed
 next_token flags p [] = at_end
-next_token flags p (c ∷ cs) = lexed_as (front_token flags p (c ∷ cs))
+next_token flags p (c ∷ cs) = lexed_as (first_token flags p (c ∷ cs))
 
 abbrev pub put_token : Token → Option (List Token) → Option (List Token)
 put_token t None = None
@@ -183,4 +183,4 @@ token_then (Some x) f = put_token x.0 (f x.1)
 abbrev pub all_tokens : Flags → ℕ → ℕ → List ℕ → Option (List Token)
 all_tokens flags whole n [] = Some []
 all_tokens flags whole zero (c ∷ cs) = None
-all_tokens flags whole (suc n) (c ∷ cs) = token_then (front_token flags (whole - length (c ∷ cs)) (c ∷ cs)) (all_tokens flags whole n)
+all_tokens flags whole (suc n) (c ∷ cs) = token_then (first_token flags (whole - length (c ∷ cs)) (c ∷ cs)) (all_tokens flags whole n)

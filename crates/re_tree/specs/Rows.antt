@@ -12,7 +12,7 @@ use Rattle.re_tree.specs.Machine.{read_tree}
 use Rattle.re_tree.specs.declared.fault.Fault.{Fault}
 use Rattle.re_tree.specs.declared.fault.FaultKind.TheVariants.{TooDeep, TooManyGroups, BadName, BadCount, BadReference, NotFixedWidth}
 use Rattle.re_tree.specs.declared.fault.FaultKind.{FaultKind}
-use Rattle.re_tree.specs.Faults.{verdict_of}
+use Rattle.re_tree.specs.Faults.{diagnosis_of}
 
 abbrev plainly : Flags
 plainly = record { ascii = false; multiline = false; dotall = false }
@@ -63,10 +63,10 @@ open_row = refl
 
 -- what is said of a pattern by its tree
 abbrev says : List ℕ → Option (Option Fault)
-says text = verdict_of (read_tree plainly text)
+says text = diagnosis_of (read_tree plainly text)
 
 abbrev answers : ℕ → FaultKind → Option (Option Fault)
-answers begin kind = Some (Some (record { begin = begin; kind = kind }))
+answers at kind = Some (Some (record { at = at; kind = kind }))
 
 -- nothing is wrong
 abbrev good : Option (Option Fault)

@@ -107,17 +107,17 @@ abbrev mutual
   code_text : PlainText → Gv
   code_text (unit test) = gcons (gcons (gnum 0) (code_test test)) gnil
   code_text (anchor k) = gcons (gcons (gnum 1) (gnum k)) gnil
-  code_text (reference begin id) = gcons (gcons (gnum 2) (gcons (gnum begin) (code_group id))) gnil
-  code_text (conditional begin id met) = gcons (gcons (gnum 3) (gcons (gnum begin) (code_group id))) (gcons (code_text met) gnil)
-  code_text (conditional_else begin id met other) = gcons (gcons (gnum 4) (gcons (gnum begin) (code_group id))) (gcons (code_text met) (gcons (code_text other) gnil))
+  code_text (reference at id) = gcons (gcons (gnum 2) (gcons (gnum at) (code_group id))) gnil
+  code_text (conditional at id met) = gcons (gcons (gnum 3) (gcons (gnum at) (code_group id))) (gcons (code_text met) gnil)
+  code_text (conditional_else at id met other) = gcons (gcons (gnum 4) (gcons (gnum at) (code_group id))) (gcons (code_text met) (gcons (code_text other) gnil))
   code_text (sequence parts) = gcons (gcons (gnum 5) gnil) (code_texts parts)
   code_text (alternation branches) = gcons (gcons (gnum 6) gnil) (code_texts branches)
-  code_text (counted begin least most mode body) =
-      gcons (gcons (gnum 7) (gcons (gcons (gnum begin) (gnum least)) (gcons (code_most most) (code_mode mode)))) (gcons (code_text body) gnil)
-  code_text (capture begin number name body) = gcons (gcons (gnum 8) (gcons (gcons (gnum begin) (gnum number)) (code_name name))) (gcons (code_text body) gnil)
-  code_text (plain begin body) = gcons (gcons (gnum 9) (gnum begin)) (gcons (code_text body) gnil)
-  code_text (atomic_text begin body) = gcons (gcons (gnum 10) (gnum begin)) (gcons (code_text body) gnil)
-  code_text (look_text begin positive back body) = gcons (gcons (gnum 11) (gcons (gnum begin) (gcons (bit positive) (bit back)))) (gcons (code_text body) gnil)
+  code_text (counted at least most mode body) =
+      gcons (gcons (gnum 7) (gcons (gcons (gnum at) (gnum least)) (gcons (code_most most) (code_mode mode)))) (gcons (code_text body) gnil)
+  code_text (capture at number name body) = gcons (gcons (gnum 8) (gcons (gcons (gnum at) (gnum number)) (code_name name))) (gcons (code_text body) gnil)
+  code_text (plain at body) = gcons (gcons (gnum 9) (gnum at)) (gcons (code_text body) gnil)
+  code_text (atomic_text at body) = gcons (gcons (gnum 10) (gnum at)) (gcons (code_text body) gnil)
+  code_text (look_text at positive back body) = gcons (gcons (gnum 11) (gcons (gnum at) (gcons (bit positive) (bit back)))) (gcons (code_text body) gnil)
 
   code_texts : PlainTexts → Gv
   code_texts done = gnil
@@ -194,16 +194,16 @@ abbrev mutual
   pub text-code : (r : PlainText) → (back (code_text r)).0 ≡ r
   text-code (unit test) = ap unit (test-code test)
   text-code (anchor k) = refl
-  text-code (reference begin id) = ap (reference begin) (group-code id)
-  text-code (conditional begin id met) = λ i. conditional begin (group-code id i) (text-code met i)
-  text-code (conditional_else begin id met other) = λ i. conditional_else begin (group-code id i) (text-code met i) (text-code other i)
+  text-code (reference at id) = ap (reference at) (group-code id)
+  text-code (conditional at id met) = λ i. conditional at (group-code id i) (text-code met i)
+  text-code (conditional_else at id met other) = λ i. conditional_else at (group-code id i) (text-code met i) (text-code other i)
   text-code (sequence parts) = ap sequence (texts-code parts)
   text-code (alternation branches) = ap alternation (texts-code branches)
-  text-code (counted begin least most mode body) = λ i. counted begin least (most-code most i) (mode-code mode i) (text-code body i)
-  text-code (capture begin number name body) = λ i. capture begin number (name-code name i) (text-code body i)
-  text-code (plain begin body) = ap (plain begin) (text-code body)
-  text-code (atomic_text begin body) = ap (atomic_text begin) (text-code body)
-  text-code (look_text begin positive back body) = λ i. look_text begin (truth-bit positive i) (truth-bit back i) (text-code body i)
+  text-code (counted at least most mode body) = λ i. counted at least (most-code most i) (mode-code mode i) (text-code body i)
+  text-code (capture at number name body) = λ i. capture at number (name-code name i) (text-code body i)
+  text-code (plain at body) = ap (plain at) (text-code body)
+  text-code (atomic_text at body) = ap (atomic_text at) (text-code body)
+  text-code (look_text at positive back body) = λ i. look_text at (truth-bit positive i) (truth-bit back i) (text-code body i)
 
   pub texts-code : (rs : PlainTexts) → (back (code_texts rs)).1 ≡ rs
   texts-code done = refl

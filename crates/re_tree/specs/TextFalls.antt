@@ -12,16 +12,16 @@ use Rattle.re_tree.specs.TextView.{text_of, texts_of, height, heights}
 pub text_falls : (r : TextTree) → deep-TextTree r ≤ height (text_of r)
 text_falls (UnitPart test) = omega arith
 text_falls (Place k) = omega arith
-text_falls (Reference begin id) = omega arith
-text_falls (Conditional begin id met None) = omega arith
-text_falls (Conditional begin id met (Some other)) = omega arith
+text_falls (Reference at id) = omega arith
+text_falls (Conditional at id met None) = omega arith
+text_falls (Conditional at id met (Some other)) = omega arith
 text_falls (Sequence parts) = omega arith
 text_falls (Alternation branches) = omega arith
-text_falls (Counted begin least most mode body) = omega arith
-text_falls (Capture begin number name body) = omega arith
-text_falls (Plain begin body) = omega arith
-text_falls (Atomic begin body) = omega arith
-text_falls (Look begin positive back body) = omega arith
+text_falls (Counted at least most mode body) = omega arith
+text_falls (Capture at number name body) = omega arith
+text_falls (Plain at body) = omega arith
+text_falls (Atomic at body) = omega arith
+text_falls (Look at positive back body) = omega arith
 
 texts_fall : (rs : List TextTree) → most deep-TextTree rs ≤ heights (texts_of rs)
 texts_fall [] = omega arith

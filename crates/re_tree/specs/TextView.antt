@@ -21,16 +21,16 @@ group_of (Name name) = named name
 abbrev pub text_of : TextTree → PlainText
 text_of (UnitPart test) = unit (test_of test)
 text_of (Place k) = anchor k
-text_of (Reference begin id) = reference begin (group_of id)
-text_of (Conditional begin id met None) = conditional begin (group_of id) met
-text_of (Conditional begin id met (Some other)) = conditional_else begin (group_of id) met other
+text_of (Reference at id) = reference at (group_of id)
+text_of (Conditional at id met None) = conditional at (group_of id) met
+text_of (Conditional at id met (Some other)) = conditional_else at (group_of id) met other
 text_of (Sequence parts) = sequence parts
 text_of (Alternation branches) = alternation branches
-text_of (Counted begin least most mode body) = counted begin least most mode body
-text_of (Capture begin number name body) = capture begin number name body
-text_of (Plain begin body) = plain begin body
-text_of (Atomic begin body) = atomic_text begin body
-text_of (Look begin positive back body) = look_text begin positive back body
+text_of (Counted at least most mode body) = counted at least most mode body
+text_of (Capture at number name body) = capture at number name body
+text_of (Plain at body) = plain at body
+text_of (Atomic at body) = atomic_text at body
+text_of (Look at positive back body) = look_text at positive back body
 
 abbrev pub texts_of : List TextTree → PlainTexts
 texts_of [] = done
@@ -41,16 +41,16 @@ abbrev mutual
   pub height : PlainText → ℕ
   height (unit test) = 0
   height (anchor k) = 0
-  height (reference begin id) = 0
-  height (conditional begin id met) = height met + 1
-  height (conditional_else begin id met other) = max (height met) (height other) + 1
+  height (reference at id) = 0
+  height (conditional at id met) = height met + 1
+  height (conditional_else at id met other) = max (height met) (height other) + 1
   height (sequence parts) = heights parts + 1
   height (alternation branches) = heights branches + 1
-  height (counted begin least most mode body) = height body + 1
-  height (capture begin number name body) = height body + 1
-  height (plain begin body) = height body + 1
-  height (atomic_text begin body) = height body + 1
-  height (look_text begin positive back body) = height body + 1
+  height (counted at least most mode body) = height body + 1
+  height (capture at number name body) = height body + 1
+  height (plain at body) = height body + 1
+  height (atomic_text at body) = height body + 1
+  height (look_text at positive back body) = height body + 1
 
   pub heights : PlainTexts → ℕ
   heights done = 0

@@ -14,9 +14,9 @@ pub data Opening : Type 0 where
 pub data Token : Type 0 where
   unit_token : (test : PlainTest) → Token
   anchor_token : (k : ℕ) → Token
-  reference_token : (begin : ℕ) (id : GroupName) → Token
-  count_token : (begin least : ℕ) (most : Option ℕ) (mode : CountMode) → Token
-  open_token : (begin : ℕ) (opening : Opening) → Token
+  reference_token : (at : ℕ) (id : GroupName) → Token
+  count_token : (at least : ℕ) (most : Option ℕ) (mode : CountMode) → Token
+  open_token : (at : ℕ) (opening : Opening) → Token
   bar : Token
   close : Token
 
@@ -24,16 +24,16 @@ abbrev mutual
   pub tokens_of : PlainText → List Token
   tokens_of (unit test) = unit_token test ∷ []
   tokens_of (anchor k) = anchor_token k ∷ []
-  tokens_of (reference begin id) = reference_token begin id ∷ []
-  tokens_of (conditional begin id met) = open_token begin (conditional_opening id) ∷ (tokens_of met ++ close ∷ [])
-  tokens_of (conditional_else begin id met other) = open_token begin (conditional_opening id) ∷ (tokens_of met ++ bar ∷ (tokens_of other ++ close ∷ []))
+  tokens_of (reference at id) = reference_token at id ∷ []
+  tokens_of (conditional at id met) = open_token at (conditional_opening id) ∷ (tokens_of met ++ close ∷ [])
+  tokens_of (conditional_else at id met other) = open_token at (conditional_opening id) ∷ (tokens_of met ++ bar ∷ (tokens_of other ++ close ∷ []))
   tokens_of (sequence parts) = tokens_in_turn parts
   tokens_of (alternation branches) = tokens_between branches
-  tokens_of (counted begin least most mode body) = tokens_of body ++ count_token begin least most mode ∷ []
-  tokens_of (capture begin number name body) = open_token begin (capturing name) ∷ (tokens_of body ++ close ∷ [])
-  tokens_of (plain begin body) = open_token begin non_capturing ∷ (tokens_of body ++ close ∷ [])
-  tokens_of (atomic_text begin body) = open_token begin atomic_opening ∷ (tokens_of body ++ close ∷ [])
-  tokens_of (look_text begin positive back body) = open_token begin (look_opening positive back) ∷ (tokens_of body ++ close ∷ [])
+  tokens_of (counted at least most mode body) = tokens_of body ++ count_token at least most mode ∷ []
+  tokens_of (capture at number name body) = open_token at (capturing name) ∷ (tokens_of body ++ close ∷ [])
+  tokens_of (plain at body) = open_token at non_capturing ∷ (tokens_of body ++ close ∷ [])
+  tokens_of (atomic_text at body) = open_token at atomic_opening ∷ (tokens_of body ++ close ∷ [])
+  tokens_of (look_text at positive back body) = open_token at (look_opening positive back) ∷ (tokens_of body ++ close ∷ [])
 
   pub tokens_in_turn : PlainTexts → List Token
   tokens_in_turn done = []

@@ -20,16 +20,16 @@ abbrev mutual
   pub width : PlainText → Option ℕ
   width (unit test) = Some 1
   width (anchor k) = Some 0
-  width (reference begin id) = None
-  width (conditional begin id met) = common (width met) (Some 0)
-  width (conditional_else begin id met other) = common (width met) (width other)
+  width (reference at id) = None
+  width (conditional at id met) = common (width met) (Some 0)
+  width (conditional_else at id met other) = common (width met) (width other)
   width (sequence parts) = sum_of_widths parts
   width (alternation branches) = common_width branches
-  width (counted begin least most mode body) = times least most (width body)
-  width (capture begin number name body) = width body
-  width (plain begin body) = width body
-  width (atomic_text begin body) = width body
-  width (look_text begin positive back body) = Some 0
+  width (counted at least most mode body) = times least most (width body)
+  width (capture at number name body) = width body
+  width (plain at body) = width body
+  width (atomic_text at body) = width body
+  width (look_text at positive back body) = Some 0
 
   pub sum_of_widths : PlainTexts → Option ℕ
   sum_of_widths done = Some 0

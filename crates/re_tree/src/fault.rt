@@ -21,7 +21,7 @@ pub enum FaultKind {
 #[derive(Clone, Copy, PartialEq, Eq, Debug)]
 pub struct Fault {
     /// The place, in code points, of the parenthesis, backslash or count that begins what is wrong.
-    pub begin: usize,
+    pub at: usize,
     /// What is wrong there.
     pub kind: FaultKind,
 }

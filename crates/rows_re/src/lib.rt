@@ -1,6 +1,9 @@
-//! Tests of re_tree and re_parse: tokens of patterns, what is wrong with a pattern, and its tree.
+//! Tests of re_tree, re_parse and re_text: tokens of patterns, what is wrong with a pattern, its tree, and
+//! what its code finds.
 #![tactic(auto)]
 
+#[cfg(test)]
+mod compiling;
 #[cfg(test)]
 mod faults;
 #[cfg(test)]

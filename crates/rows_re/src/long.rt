@@ -98,3 +98,25 @@ fn names(rt: HostRuntime) -> PyResult<()> {
     );
     Ok(())
 }
+
+// So many parentheses as a pattern has characters at most, and some more. It is wrong from the
+// first one on, so that no tree is made of it.
+fn longest_and(alloc: Global, more: &str) -> PyResult<PyStr> {
+    let part = times(alloc, 512, ")", ")")?;
+    let mut text = times(alloc, 8_192, part.as_str(), part.as_str())?;
+    text.append(more)?;
+    Ok(text)
+}
+
+#[test]
+fn longest(rt: HostRuntime) -> PyResult<()> {
+    let alloc = rt.alloc();
+    assert_eq!(rt;
+        [
+            error(alloc, &longest_and(alloc, "")?),
+            error(alloc, &longest_and(alloc, ")")?),
+        ],
+        [Some(TextError::NotInGrammar), Some(TextError::TooLong)]
+    );
+    Ok(())
+}

@@ -23,8 +23,8 @@ fn characters(alloc: Global, text: &str) -> Result<Vec<char>, AllocError> {
 fn count(alloc: Global, text: &[char]) -> Result<Option<usize>, AllocError> {
     let mut rest = text;
     for tokens in 0..text.len() {
-        let begin = text.len().saturating_sub(rest.len());
-        match next_token(alloc, FLAGS, begin, rest)? {
+        let at = text.len().saturating_sub(rest.len());
+        match next_token(alloc, FLAGS, at, rest)? {
             Lexed::End => return Ok(Some(tokens)),
             Lexed::NoToken => return Ok(None),
             Lexed::Token(_token, after) => rest = after,

@@ -43,55 +43,69 @@ fn one_key(alloc: Global) -> PyResult<Value> {
     Ok(Value::Dict(dict))
 }
 
+// A value of a class, with one item where it can have some.
+fn value_of(alloc: Global, class: ClassName) -> PyResult<Value> {
+    match class {
+        ClassName::NoneType => Ok(Value::None),
+        ClassName::Bool => Ok(Value::Bool(true)),
+        ClassName::Int => Ok(int(1)),
+        ClassName::Str => text(alloc, "é"),
+        ClassName::Bytes => bytes(alloc, b"a"),
+        ClassName::Tuple => Ok(Value::Tuple(list_of_one(alloc, int(1))?)),
+        ClassName::List => Ok(Value::List(list_of_one(alloc, int(1))?)),
+        ClassName::Dict => one_key(alloc),
+        _ => Ok(Value::Handle(1)),
+    }
+}
+
 #[test]
 fn values_without_items(rt: HostRuntime) -> Result<(), PyError> {
     let alloc = rt.alloc();
-    let values = [Value::None, Value::Bool(true), int(1), Value::Handle(1)];
-    let failures = values.map(|value| failed(alloc, &value, &Value::None));
-    let is = [
+    for class in [
         ClassName::NoneType,
         ClassName::Bool,
         ClassName::Int,
         ClassName::Object,
-    ];
-    assert_eq!(rt; failures, is.map(Failure::NotSubscriptable));
+    ] {
+        let value = value_of(alloc, class)?;
+        assert_eq!(rt;
+            failed(alloc, &value, &Value::None),
+            Failure::NotSubscriptable(class)
+        );
+    }
     Ok(())
 }
 
 #[test]
 fn keys_of_another_class(rt: HostRuntime) -> Result<(), PyError> {
     let alloc = rt.alloc();
-    let key = text(alloc, "a")?;
-    let values = [
-        text(alloc, "a")?,
-        bytes(alloc, b"a")?,
-        Value::Tuple(list_of_one(alloc, int(1))?),
-        Value::List(list_of_one(alloc, int(1))?),
-    ];
-    let by_text = Failure::Downcast(ClassName::Int, ClassName::Str);
-    assert_eq!(rt;
-        values.map(|value| failed(alloc, &value, &key)),
-        [by_text; 4]
-    );
-    let by_none = Failure::Downcast(ClassName::Str, ClassName::NoneType);
-    assert_eq!(rt; failed(alloc, &one_key(alloc)?, &Value::None), by_none);
+    for (class, wanted) in [
+        (ClassName::Str, ClassName::Int),
+        (ClassName::Bytes, ClassName::Int),
+        (ClassName::Tuple, ClassName::Int),
+        (ClassName::List, ClassName::Int),
+        (ClassName::Dict, ClassName::Str),
+    ] {
+        let value = value_of(alloc, class)?;
+        let failure = Failure::Downcast(wanted, ClassName::NoneType);
+        assert_eq!(rt; failed(alloc, &value, &Value::None), failure);
+    }
     Ok(())
 }
 
 #[test]
 fn places_that_are_not_there(rt: HostRuntime) -> Result<(), PyError> {
     let alloc = rt.alloc();
-    let values = [
-        text(alloc, "é")?,
-        bytes(alloc, b"a")?,
-        Value::Tuple(list_of_one(alloc, int(1))?),
-        Value::List(list_of_one(alloc, int(1))?),
-        one_key(alloc)?,
-    ];
-    let failures = values.map(|value| failed(alloc, &value, &int(-2)));
-    let index = Failure::TupleIndex;
-    let is = [Failure::IndexOutOfRange, index, index, index, Failure::Key];
-    assert_eq!(rt; failures, is);
+    for (class, failure) in [
+        (ClassName::Str, Failure::IndexOutOfRange),
+        (ClassName::Bytes, Failure::TupleIndex),
+        (ClassName::Tuple, Failure::TupleIndex),
+        (ClassName::List, Failure::TupleIndex),
+        (ClassName::Dict, Failure::Key),
+    ] {
+        let value = value_of(alloc, class)?;
+        assert_eq!(rt; failed(alloc, &value, &int(-2)), failure);
+    }
     Ok(())
 }
 
@@ -107,19 +121,14 @@ fn the_key_that_is_not_there(rt: HostRuntime) -> Result<(), PyError> {
 fn values_without_attributes(rt: HostRuntime) -> Result<(), PyError> {
     let alloc = rt.alloc();
     let name = PyStr::copy_of(alloc, "a")?;
-    let values = [
-        Value::None,
-        text(alloc, "a")?,
-        one_key(alloc)?,
-        Value::Handle(1),
-    ];
-    let failures = values.map(|value| failure_of(get_attr(alloc, &mut NoHost, &value, &name)));
-    let is = [
+    for class in [
         ClassName::NoneType,
         ClassName::Str,
         ClassName::Dict,
         ClassName::Object,
-    ];
-    assert_eq!(rt; failures, is.map(Failure::NoAttribute));
+    ] {
+        let found = get_attr(alloc, &mut NoHost, &value_of(alloc, class)?, &name);
+        assert_eq!(rt; failure_of(found), Failure::NoAttribute(class));
+    }
     Ok(())
 }

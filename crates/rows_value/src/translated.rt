@@ -22,7 +22,7 @@ fn given(alloc: Global, argument: &str) -> PyResult<OptionalArg<PyStr>> {
     Ok(OptionalArg::Present(PyStr::copy_of(alloc, argument)?))
 }
 
-fn table_of(alloc: Global, value: Value) -> PyResult<PyDict> {
+fn table_from(alloc: Global, value: Value) -> PyResult<PyDict> {
     let none = OptionalArg::Missing;
     <PyStr as StrValues>::maketrans(alloc, value, OptionalArg::Missing, none)
 }
@@ -31,100 +31,136 @@ fn key(alloc: Global, key: &str) -> PyResult<DictKey> {
     Ok(DictKey::Str(PyStr::copy_of(alloc, key)?))
 }
 
+// The dictionary of a party hat: an `a` is replaced, and so is a `c`, and a `b` is dropped.
+fn party_hat(alloc: Global) -> PyResult<PyDict> {
+    let mut dict = PyDict::new(alloc);
+    for (from, to) in [("a", "🎅"), ("c", "xda")] {
+        dict.set_item(key(alloc, from)?, text(alloc, to)?)?;
+    }
+    dict.set_item(key(alloc, "b")?, Value::None)?;
+    Ok(dict)
+}
+
 #[test]
 fn a_party_hat(rt: HostRuntime) -> Result<(), PyError> {
     let alloc = rt.alloc();
-    let mut dict = dict_of_one(alloc, key(alloc, "a")?, text(alloc, "🎅")?)?;
-    dict.set_item(key(alloc, "b")?, Value::None)?;
-    dict.set_item(key(alloc, "c")?, text(alloc, "xda")?)?;
-    let table = Value::Dict(table_of(alloc, Value::Dict(dict))?);
+    let table = Value::Dict(table_from(alloc, Value::Dict(party_hat(alloc)?))?);
     let changed = translated(alloc, &mut NoHost, &table, "abc")?;
     assert_eq!(rt; changed.as_str(), "🎅xda");
     Ok(())
 }
 
+// The table from `ac` to `xé` without `b`.
+fn of_texts(alloc: Global) -> PyResult<PyDict> {
+    let to = given(alloc, "xé")?;
+    let dropped = given(alloc, "b")?;
+    <PyStr as StrValues>::maketrans(alloc, text(alloc, "ac")?, to, dropped)
+}
+
 #[test]
 fn by_two_texts(rt: HostRuntime) -> Result<(), PyError> {
     let alloc = rt.alloc();
-    let to = given(alloc, "xé")?;
-    let table = <PyStr as StrValues>::maketrans(alloc, text(alloc, "ac")?, to, given(alloc, "b")?)?;
-    assert_eq!(rt; table.len(), 3);
+    let table = of_texts(alloc)?;
+    let size = table.len();
     let changed = translated(alloc, &mut NoHost, &Value::Dict(table), "abcd")?;
-    assert_eq!(rt; changed.as_str(), "xéd");
+    assert_eq!(rt; (size, changed.as_str()), (3, "xéd"));
     Ok(())
+}
+
+// Why there is no table.
+fn no_table(made: PyResult<PyDict>) -> Option<MaketransKind> {
+    match made {
+        Err(PyError::Maketrans(kind)) => Some(kind),
+        _ => None,
+    }
 }
 
 #[test]
 fn tables_that_are_refused(rt: HostRuntime) -> Result<(), PyError> {
     let alloc = rt.alloc();
-    let none = OptionalArg::Missing;
-    let refused = (
-        table_of(
-            alloc,
-            Value::Dict(dict_of_one(alloc, key(alloc, "ab")?, int(1))?),
-        ),
-        table_of(alloc, int(1)),
-        <PyStr as StrValues>::maketrans(alloc, int(1), given(alloc, "a")?, none),
-    );
-    assert!(rt;
-        matches!(
-            refused,
-            (
-                Err(PyError::Maketrans(MaketransKind::KeyLength)),
-                Err(PyError::Maketrans(MaketransKind::NeedsDict)),
-                Err(PyError::Maketrans(MaketransKind::NeedsString)),
-            )
-        )
-    );
+    let long = dict_of_one(alloc, key(alloc, "ab")?, int(1))?;
+    let to = given(alloc, "a")?;
+    let kinds = [
+        no_table(table_from(alloc, Value::Dict(long))),
+        no_table(table_from(alloc, int(1))),
+        no_table(<PyStr as StrValues>::maketrans(alloc, int(1), to, OptionalArg::Missing)),
+    ];
+    let is = [
+        MaketransKind::KeyLength,
+        MaketransKind::NeedsDict,
+        MaketransKind::NeedsString,
+    ];
+    assert_eq!(rt; kinds, is.map(Some));
     Ok(())
 }
 
-/// A host that has an `x` under one code point.
-fn items(alloc: Global, code: i128, fails: Vec<u64>) -> PyResult<TableHost> {
+/// A host that has an `x` under one code point, and fails in one call.
+fn items(alloc: Global, code: i128, fails: u64) -> PyResult<TableHost> {
+    let mut failing = Vec::new(alloc);
+    failing.push(fails)?;
     let key = Value::Int(PyInt::from(code));
     let answer = text(alloc, "x")?;
-    host(alloc, HostMethod::GetItem, key, answer, fails)
+    host(alloc, HostMethod::GetItem, key, answer, failing)
 }
 
+// The host is asked for one character after the other; where it fails, the character is kept.
 #[test]
 fn by_a_host(rt: HostRuntime) -> Result<(), PyError> {
     let alloc = rt.alloc();
-    let handle = Value::Handle(7);
-    let mut other = items(alloc, 98, Vec::new(alloc))?;
-    let changed = translated(alloc, &mut other, &handle, "ab")?;
-    assert_eq!(rt; changed.as_str(), "ax");
-    let mut fails = Vec::new(alloc);
-    fails.push(1)?;
-    let mut failing = items(alloc, 97, fails)?;
-    let changed = translated(alloc, &mut failing, &handle, "aa")?;
-    assert_eq!(rt; changed.as_str(), "ax");
+    for (code, fails, of) in [(98, 3, "ab"), (97, 1, "aa")] {
+        let mut host = items(alloc, code, fails)?;
+        let changed = translated(alloc, &mut host, &Value::Handle(7), of)?;
+        assert_eq!(rt; changed.as_str(), "ax");
+    }
     Ok(())
+}
+
+// The list `[True, 0x110000, {}]`.
+fn three_values(alloc: Global) -> PyResult<Value> {
+    let mut list = ValueList::new(alloc);
+    list.push(Value::Bool(true))?;
+    list.push(int(0x110000))?;
+    list.push(Value::Dict(PyDict::new(alloc)))?;
+    Ok(Value::List(list))
 }
 
 #[test]
 fn by_a_list(rt: HostRuntime) -> Result<(), PyError> {
     let alloc = rt.alloc();
-    let mut list = ValueList::new(alloc);
-    list.push(Value::Bool(true))?;
-    list.push(int(0x110000))?;
-    list.push(Value::Dict(PyDict::new(alloc)))?;
-    let table = Value::List(list);
-    let changed = translated(alloc, &mut NoHost, &table, "\0z")?;
+    let changed = translated(alloc, &mut NoHost, &three_values(alloc)?, "\0z")?;
     assert_eq!(rt; changed.as_str(), "\u{1}z");
-    let refused = (
-        translated(alloc, &mut NoHost, &table, "\u{1}"),
-        translated(alloc, &mut NoHost, &table, "\u{2}"),
-        translated(alloc, &mut NoHost, &int(3), ""),
-    );
-    assert!(rt;
-        matches!(
-            refused,
-            (
-                Err(PyError::Translate(TranslateKind::Range)),
-                Err(PyError::Translate(TranslateKind::Kind)),
-                Err(PyError::NotSubscriptable(ClassName::Int)),
-            )
-        )
-    );
+    Ok(())
+}
+
+/// Why there is no text.
+#[derive(Clone, Copy, Debug, PartialEq, Eq)]
+enum Failure {
+    Translate(TranslateKind),
+    NotSubscriptable(ClassName),
+}
+
+fn no_text(alloc: Global, table: &Value, of: &str) -> Option<Failure> {
+    match translated(alloc, &mut NoHost, table, of) {
+        Err(PyError::Translate(kind)) => Some(Failure::Translate(kind)),
+        Err(PyError::NotSubscriptable(class)) => Some(Failure::NotSubscriptable(class)),
+        _ => None,
+    }
+}
+
+#[test]
+fn values_that_are_no_characters(rt: HostRuntime) -> Result<(), PyError> {
+    let alloc = rt.alloc();
+    let table = three_values(alloc)?;
+    let failures = [
+        no_text(alloc, &table, "\u{1}"),
+        no_text(alloc, &table, "\u{2}"),
+        no_text(alloc, &int(3), ""),
+    ];
+    let is = [
+        Failure::Translate(TranslateKind::Range),
+        Failure::Translate(TranslateKind::Kind),
+        Failure::NotSubscriptable(ClassName::Int),
+    ];
+    assert_eq!(rt; failures, is.map(Some));
     Ok(())
 }

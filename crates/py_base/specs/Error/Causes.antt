@@ -1,4 +1,4 @@
--- What the causes print that one error stands for.
+-- What is printed of the causes of errors that have more than one.
 use Rattle.std.specs.Prelude.{ℕ, List, ◌++◌, codes, encode_utf8}
 use Rattle.py_base.specs.declared.error.causes.ZeroKind.{ZeroKind}
 use Rattle.py_base.specs.declared.error.causes.ZeroKind.TheVariants.{Division, Modulo, Both}

@@ -62,7 +62,7 @@ fn write_number<W: Write>(f: &mut Formatter<W>, code: u32) -> fmt::Result
     }
 }
 
-// One character within quotes; `plain` says whether it stands for itself.
+// One character within quotes; `plain` says whether it is written as itself.
 fn write_quoted_char<W: Write>(
     f: &mut Formatter<W>,
     quote: char,

@@ -64,7 +64,7 @@ pub enum FormatSpecError {
     PrecisionTooBig,
     /// The text is no specification.
     InvalidFormatSpecifier,
-    /// A mark of grouping stands with a type that has none.
+    /// A grouping separator is given with a type that takes none.
     UnspecifiedFormat(char, char),
     /// The type does not serve values of the class.
     UnknownFormatCode(char, ClassName),

@@ -1,4 +1,4 @@
-//! The causes that one error stands for.
+//! The causes of errors that have more than one.
 
 use std::fmt;
 

@@ -32,7 +32,8 @@ impl Model for MemSink {
 
     ghost view = { λ s. room_of s.bytes.items s.room s.fails.items s.most s.calls s.faults };
 
-    ghost invariant = { λ s. (0 < s.most) × (vec_len s.bytes ≤ s.room) × (s.room ≤ vec_capacity s.bytes) };
+    ghost invariant = { λ s. (0 < s.most) × (vec_len s.bytes ≤ s.room)
+        × (s.room ≤ vec_capacity s.bytes) };
 }
 
 impl MemSink {

@@ -123,6 +123,13 @@ impl CFormatBytes {
         Ok(made)
     }
 
+    /// The parts with their places, borrowed.
+    pub fn parts(&self) -> &[(usize, CFormatPart)]
+        ensures { result.now ≡ self.now }
+    {
+        &self.parts
+    }
+
     /// How many parts there are.
     pub fn len(&self) -> usize
         ensures { result ≡ length self.now }

@@ -124,8 +124,8 @@ impl CFormatString {
         Ok(made)
     }
 
-    /// The parts, borrowed.
-    pub(crate) fn parts(&self) -> &[(usize, CFormatPart)]
+    /// The parts with their places, borrowed.
+    pub fn parts(&self) -> &[(usize, CFormatPart)]
         ensures { result.now ≡ self.now }
     {
         &self.parts

@@ -12,7 +12,12 @@ impl Host for NoHost {
     ghost use Rattle.std.specs.Prelude.{◌≡◌, Ok, Some, None, false};
     ghost use Rattle.py_value.specs.NoHost.{no_table};
 
-    ghost seen = { λ _. record { table = Some no_table; faults = 0; asked = None } };
+    ghost seen = { λ _. record {
+      table = Some no_table;
+      faults = 0;
+      asked = None;
+      runs_out = false;
+    } };
 
     fn has_getitem(&self, _handle: u64) -> bool
         ensures none { result ≡ false }

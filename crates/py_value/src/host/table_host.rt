@@ -55,7 +55,7 @@ impl TableHost {
     }
 
     // Counts a call, and says whether it fails.
-    fn count(&mut self) -> bool
+    fn count_call(&mut self) -> bool
         ensures fails { result ≡ spec.call_fails self.old }
         ensures after { self.new ≡ spec.after_call self.old }
         ensures later { self.old.faults ≤ self.new.faults }
@@ -99,7 +99,7 @@ impl TableHost {
             (seen_of self.old) (seen_of self.new) result }
         ensures call { AnswersCall handle method (plain_of key.now) self.old self.new result }
     {
-        if self.count() {
+        if self.count_call() {
             return Err(HostAnswer::Failed);
         }
         self.answer(handle, method, key)
@@ -116,7 +116,7 @@ impl TableHost {
             (seen_of self.old) (seen_of self.new) result }
         ensures call { AnswersCall handle method (str key.now) self.old self.new result }
     {
-        if self.count() {
+        if self.count_call() {
             return Err(HostAnswer::Failed);
         }
         match key.try_clone(self.alloc) {

@@ -1,8 +1,8 @@
 //! The repr of a value, put at the end of a text.
 
-ghost use Rattle.std.specs.Prelude.{zero};
+ghost use Rattle.std.specs.Prelude.{◌≡◌, zero, true};
 ghost use Rattle.py_value.specs.Asking.{Answers};
-ghost use Rattle.py_value.specs.Plain.{tuple, list, dict, handle as handle_of};
+ghost use Rattle.py_value.specs.Plain.{tuple, list, dict, handle as handle_of, bare, values_bare, entries_bare};
 ghost use Rattle.py_value.specs.Printing as spec;
 ghost use Rattle.py_value.specs.Printing.{written};
 ghost use Rattle.py_value.specs.ValueView.{plain_of};
@@ -46,8 +46,9 @@ impl Value {
         host: &mut H,
         out: &mut PyStr,
     ) -> PyResult<()>
-        ensures { Answers (spec.put_repr (plain_of self.now) out.old)
+        ensures answers { Answers (spec.put_repr (plain_of self.now) out.old)
             (H.seen host.old) (H.seen host.new) (written result out.new) }
+        ensures quiet { bare (plain_of self.now) ≡ true → host.new ≡ host.old }
     {
         match self {
             Value::None => {
@@ -85,8 +86,9 @@ impl Value {
 impl ValueList {
     #[cycle(prints)]
     fn put_tuple<H: Host>(&self, alloc: Global, host: &mut H, out: &mut PyStr) -> PyResult<()>
-        ensures { Answers (spec.put_repr (tuple self.now) out.old)
+        ensures answers { Answers (spec.put_repr (tuple self.now) out.old)
             (H.seen host.old) (H.seen host.new) (written result out.new) }
+        ensures quiet { values_bare self.now ≡ true → host.new ≡ host.old }
     {
         out.append_ascii("(")?;
         self.put_values(alloc, host, out)?;
@@ -96,8 +98,9 @@ impl ValueList {
 
     #[cycle(prints)]
     fn put_list<H: Host>(&self, alloc: Global, host: &mut H, out: &mut PyStr) -> PyResult<()>
-        ensures { Answers (spec.put_repr (list self.now) out.old)
+        ensures answers { Answers (spec.put_repr (list self.now) out.old)
             (H.seen host.old) (H.seen host.new) (written result out.new) }
+        ensures quiet { values_bare self.now ≡ true → host.new ≡ host.old }
     {
         out.append_ascii("[")?;
         self.put_values(alloc, host, out)?;
@@ -107,8 +110,9 @@ impl ValueList {
 
     #[cycle(prints)]
     fn put_values<H: Host>(&self, alloc: Global, host: &mut H, out: &mut PyStr) -> PyResult<()>
-        ensures { Answers (spec.put_values zero self.now out.old)
+        ensures answers { Answers (spec.put_values zero self.now out.old)
             (H.seen host.old) (H.seen host.new) (written result out.new) }
+        ensures quiet { values_bare self.now ≡ true → host.new ≡ host.old }
     {
         for (i, item) in self.items.iter().enumerate() {
             put_comma(out, i)?;
@@ -121,8 +125,9 @@ impl ValueList {
 impl PyDict {
     #[cycle(prints)]
     fn put_dict<H: Host>(&self, alloc: Global, host: &mut H, out: &mut PyStr) -> PyResult<()>
-        ensures { Answers (spec.put_repr (dict self.now) out.old)
+        ensures answers { Answers (spec.put_repr (dict self.now) out.old)
             (H.seen host.old) (H.seen host.new) (written result out.new) }
+        ensures quiet { entries_bare self.now ≡ true → host.new ≡ host.old }
     {
         out.append_ascii("{")?;
         self.put_entries(alloc, host, out)?;
@@ -132,8 +137,9 @@ impl PyDict {
 
     #[cycle(prints)]
     fn put_entries<H: Host>(&self, alloc: Global, host: &mut H, out: &mut PyStr) -> PyResult<()>
-        ensures { Answers (spec.put_entries zero self.now out.old)
+        ensures answers { Answers (spec.put_entries zero self.now out.old)
             (H.seen host.old) (H.seen host.new) (written result out.new) }
+        ensures quiet { entries_bare self.now ≡ true → host.new ≡ host.old }
     {
         for (i, item) in self.entries.iter().enumerate() {
             put_label(alloc, out, i, &item.key)?;

@@ -35,21 +35,21 @@ fn end_quietly(
     })
 }
 
-// The end of a lookbehind.
+// A lookbehind alone has a fault of its end.
 fn end_lookbehind(
     alloc: Global,
-    begin: usize,
+    at: usize,
     body: Body,
     first: Option<Fault>,
 ) -> Result<Closed, AllocError>
     ensures shape { IfOk result (λ closed. closed.shape ≡ closed_shape Lookbehind body) }
     ensures first { IfOk result (λ closed. closed.first ≡
-        note first (close_faults begin Lookbehind (body_width body))) }
+        note first (close_faults at Lookbehind (body_width body))) }
 {
     let width = body.width(alloc)?;
     Ok(Closed {
         shape: Some(look_shape()),
-        first: note(first, is_wide(&width), begin, FaultKind::NotFixedWidth),
+        first: note(first, is_wide(&width), at, FaultKind::NotFixedWidth),
     })
 }
 
@@ -57,16 +57,16 @@ fn end_lookbehind(
 pub(crate) fn end(
     alloc: Global,
     construct: Construct,
-    begin: usize,
+    at: usize,
     body: Body,
     first: Option<Fault>,
 ) -> Result<Closed, AllocError>
     ensures shape { IfOk result (λ closed. closed.shape ≡ closed_shape construct body) }
     ensures first { IfOk result (λ closed. closed.first ≡
-        note first (close_faults begin construct (body_width body))) }
+        note first (close_faults at construct (body_width body))) }
 {
     match construct {
-        Construct::Lookbehind => end_lookbehind(alloc, begin, body, first),
+        Construct::Lookbehind => end_lookbehind(alloc, at, body, first),
         Construct::Capture => end_quietly(alloc, construct, body, first),
         Construct::Group => end_quietly(alloc, construct, body, first),
         Construct::Lookahead => end_quietly(alloc, construct, body, first),

@@ -17,7 +17,6 @@ use py_text::PyStr;
 use re_tree::limits::{MAX_GROUPS, MAX_PARENTHESES};
 use re_tree::{Fault, FaultKind};
 
-// Whether a name is an identifier.
 #[tactic(auto, using(crate::proofs::PassCodeLemmas::same_identifiers))]
 fn is_identifier(name: &PyStr) -> bool
     ensures { result ≡ faults.is_identifier name.now }
@@ -34,7 +33,6 @@ impl Pass {
         MAX_PARENTHESES <= self.outer.len()
     }
 
-    // Whether a group has ended.
     fn is_closed(&self, id: &GroupName) -> bool
         ensures { result ≡ faults.is_closed (where_of (pass_in self.now)) (group_named id.now) }
     {
@@ -46,76 +44,71 @@ impl Pass {
 
     // The first fault, with those of a back reference.
     #[tactic(auto, using(crate::proofs::FirstFaultLemmas::note_more))]
-    pub(crate) fn note_reference(&self, begin: usize, id: &GroupName) -> Option<Fault>
+    pub(crate) fn note_reference(&self, at: usize, id: &GroupName) -> Option<Fault>
         ensures { result ≡ note self.now.first
-            (at_reference (where_of (pass_in self.now)) begin (group_named id.now)) }
+            (at_reference (where_of (pass_in self.now)) at (group_named id.now)) }
     {
         let wrong = !self.is_closed(id);
         match id {
-            GroupName::Number(_) => note(self.first, wrong, begin, FaultKind::BadReference),
+            GroupName::Number(_) => note(self.first, wrong, at, FaultKind::BadReference),
             GroupName::Name(name) => {
-                let first = note(self.first, self.is_deep(), begin, FaultKind::TooDeep);
-                let first = note(first, !is_identifier(name), begin, FaultKind::BadName);
-                note(first, wrong, begin, FaultKind::BadReference)
+                let first = note(self.first, self.is_deep(), at, FaultKind::TooDeep);
+                let first = note(first, !is_identifier(name), at, FaultKind::BadName);
+                note(first, wrong, at, FaultKind::BadReference)
             }
         }
     }
 
     // The first fault, with that of the name of a group.
-    fn note_name(&self, first: Option<Fault>, begin: usize, name: &PyStr) -> Option<Fault>
+    fn note_name(&self, first: Option<Fault>, at: usize, name: &PyStr) -> Option<Fault>
         ensures { result ≡ note first (only_if
             (not (faults.is_identifier name.now) || has_name self.now.groups.names name.now)
-            begin BadName) }
+            at BadName) }
     {
         note(
             first,
             !is_identifier(name) || self.groups.names.has(name),
-            begin,
+            at,
             FaultKind::BadName,
         )
     }
 
     // The first fault, with those of the name of a conditional.
     #[tactic(auto, using(crate::proofs::FirstFaultLemmas::note_more))]
-    fn note_conditional(&self, first: Option<Fault>, begin: usize, name: &PyStr) -> Option<Fault>
+    fn note_conditional(&self, first: Option<Fault>, at: usize, name: &PyStr) -> Option<Fault>
         ensures { result ≡ note first
-            (only_if (not (faults.is_identifier name.now)) begin BadName ++
-            only_if (not (has_name self.now.groups.names name.now)) begin BadReference) }
+            (only_if (not (faults.is_identifier name.now)) at BadName ++
+            only_if (not (has_name self.now.groups.names name.now)) at BadReference) }
     {
-        let first = note(first, !is_identifier(name), begin, FaultKind::BadName);
+        let first = note(first, !is_identifier(name), at, FaultKind::BadName);
         note(
             first,
             !self.groups.names.has(name),
-            begin,
+            at,
             FaultKind::BadReference,
         )
     }
 
     // The first fault, with those of an opening.
     #[tactic(auto, using(crate::proofs::FirstFaultLemmas::note_more, crate::proofs::PassCodeLemmas::nothing_more))]
-    pub(crate) fn note_opening(
-        &self,
-        begin: usize,
-        number: usize,
-        opening: &Opening,
-    ) -> Option<Fault>
+    pub(crate) fn note_opening(&self, at: usize, number: usize, opening: &Opening) -> Option<Fault>
         ensures { result ≡ note self.now.first
-            (at_opening (where_of (pass_in self.now)) begin number (opening_of opening.now)) }
+            (at_opening (where_of (pass_in self.now)) at number (opening_of opening.now)) }
     {
-        let first = note(self.first, self.is_deep(), begin, FaultKind::TooDeep);
+        let first = note(self.first, self.is_deep(), at, FaultKind::TooDeep);
         match opening {
             Opening::Capturing(None) => note(
                 first,
                 MAX_GROUPS < number,
-                begin,
+                at,
                 FaultKind::TooManyGroups,
             ),
             Opening::Capturing(Some(name)) => {
-                let first = note(first, MAX_GROUPS < number, begin, FaultKind::TooManyGroups);
-                self.note_name(first, begin, name)
+                let first = note(first, MAX_GROUPS < number, at, FaultKind::TooManyGroups);
+                self.note_name(first, at, name)
             }
             Opening::Conditional(GroupName::Name(name)) => {
-                self.note_conditional(first, begin, name)
+                self.note_conditional(first, at, name)
             }
             Opening::Conditional(GroupName::Number(_)) => first,
             Opening::NonCapturing => first,

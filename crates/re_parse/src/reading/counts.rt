@@ -15,7 +15,7 @@ use crate::token::Token;
 use re_tree::{CountMode, UnitTest};
 use std::alloc::{AllocError, Global};
 
-// The digits at the front, and what is left.
+// The digits that the text begins with, and what is left.
 fn digits(text: &[char]) -> (&[char], &[char])
     ensures digits { result.0.now ≡ spec.digits_of text.now }
     ensures rest { result.1.now ≡ spec.after_digits text.now }
@@ -39,32 +39,29 @@ fn greatest(alloc: Global, digits: &[char]) -> Result<Option<Number>, AllocError
 }
 
 // A count whose bounds are read.
-fn counted(begin: usize, least: Number, most: Option<Number>, rest: &[char]) -> (Token, &[char])
-    ensures { token_and_rest result ≡ spec.with_mode begin least most rest.now }
+fn counted(at: usize, least: Number, most: Option<Number>, rest: &[char]) -> (Token, &[char])
+    ensures { token_and_rest result ≡ spec.with_mode at least most rest.now }
 {
     match rest {
-        ['?', more @ ..] => (Token::Count(begin, least, most, CountMode::Lazy), more),
-        ['+', more @ ..] => (
-            Token::Count(begin, least, most, CountMode::Possessive),
-            more,
-        ),
-        _ => (Token::Count(begin, least, most, CountMode::Greedy), rest),
+        ['?', more @ ..] => (Token::Count(at, least, most, CountMode::Lazy), more),
+        ['+', more @ ..] => (Token::Count(at, least, most, CountMode::Possessive), more),
+        _ => (Token::Count(at, least, most, CountMode::Greedy), rest),
     }
 }
 
 // A count by a sign, whose bounds these digits write.
 pub(crate) fn sign_count<'t>(
     alloc: Global,
-    begin: usize,
+    at: usize,
     least: &[char],
     most: &[char],
     rest: &'t [char],
 ) -> Found<'t>
-    ensures { Reads (counted_by begin least.now most.now rest.now) result }
+    ensures { Reads (counted_by at least.now most.now rest.now) result }
 {
     let least = Number::from_digits(alloc, least)?;
     let most = greatest(alloc, most)?;
-    Ok(Some(counted(begin, least, most, rest)))
+    Ok(Some(counted(at, least, most, rest)))
 }
 
 // The bounds of a count, where there are some, and what is left.
@@ -112,11 +109,11 @@ fn bounds(alloc: Global, text: &[char]) -> Bounds
 }
 
 // After a `{`, which is itself where no count begins.
-pub(crate) fn brace(alloc: Global, begin: usize, text: &[char]) -> Found
-    ensures { Reads (Some (spec.brace_token begin text.now (spec.read_bounds text.now))) result }
+pub(crate) fn brace(alloc: Global, at: usize, text: &[char]) -> Found
+    ensures { Reads (Some (spec.brace_token at text.now (spec.read_bounds text.now))) result }
 {
     match bounds(alloc, text)? {
         None => Ok(Some((Token::Unit(UnitTest::Literal('{')), text))),
-        Some((least, most, rest)) => Ok(Some(counted(begin, least, most, rest))),
+        Some((least, most, rest)) => Ok(Some(counted(at, least, most, rest))),
     }
 }

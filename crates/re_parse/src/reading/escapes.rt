@@ -29,25 +29,25 @@ fn is_first_digit(c: char) -> bool
 }
 
 // A back reference to the group with this number.
-fn reference(alloc: Global, begin: usize, digits: &[char]) -> Result<Token, AllocError>
-    ensures { IfOk result (λ t. token_of t ≡ reference_token begin (numbered (value digits.now))) }
+fn reference(alloc: Global, at: usize, digits: &[char]) -> Result<Token, AllocError>
+    ensures { IfOk result (λ t. token_of t ≡ reference_token at (numbered (value digits.now))) }
 {
     let number = Number::from_digits(alloc, digits)?;
-    Ok(Token::Reference(begin, GroupName::Number(number)))
+    Ok(Token::Reference(at, GroupName::Number(number)))
 }
 
 // A back reference after its first digit.
-fn reference_from(alloc: Global, begin: usize, first: char, rest: &[char]) -> Found
-    ensures { Reads (spec.number_token begin first rest.now) result }
+fn reference_from(alloc: Global, at: usize, first: char, rest: &[char]) -> Found
+    ensures { Reads (spec.number_token at first rest.now) result }
 {
     match rest {
         [second, after @ ..] if is_digit(*second) => {
             if is_octal(first) && is_octal(*second) && begins_octal(after) {
                 return Ok(None);
             }
-            Ok(Some((reference(alloc, begin, &[first, *second])?, after)))
+            Ok(Some((reference(alloc, at, &[first, *second])?, after)))
         }
-        _ => Ok(Some((reference(alloc, begin, &[first])?, rest))),
+        _ => Ok(Some((reference(alloc, at, &[first])?, rest))),
     }
 }
 
@@ -61,11 +61,11 @@ fn begins_octal(text: &[char]) -> bool
 }
 
 // After the backslash and a character that is no letter of the table.
-fn other(alloc: Global, flags: TextFlags, begin: usize, l: char, rest: &[char]) -> Found
-    ensures { Reads (spec.letter_token None flags begin l rest.now) result }
+fn other(alloc: Global, flags: TextFlags, at: usize, l: char, rest: &[char]) -> Found
+    ensures { Reads (spec.letter_token None flags at l rest.now) result }
 {
     if is_first_digit(l) {
-        return reference_from(alloc, begin, l, rest);
+        return reference_from(alloc, at, l, rest);
     }
     if is_ascii_non_alphanumeric(l) {
         return Ok(Some((Token::Unit(UnitTest::Literal(l)), rest)));
@@ -83,11 +83,11 @@ fn category(alloc: Global, k: u32) -> Result<UnitTest, AllocError>
 }
 
 // After the backslash and this character.
-fn escaped(alloc: Global, flags: TextFlags, begin: usize, l: char, rest: &[char]) -> Found
-    ensures { Reads (spec.letter_token (find letters l) flags begin l rest.now) result }
+fn escaped(alloc: Global, flags: TextFlags, at: usize, l: char, rest: &[char]) -> Found
+    ensures { Reads (spec.letter_token (find letters l) flags at l rest.now) result }
 {
     match letter_at(l) {
-        None => other(alloc, flags, begin, l, rest),
+        None => other(alloc, flags, at, l, rest),
         Some(Letter::Character(c)) => Ok(Some((Token::Unit(UnitTest::Literal(c)), rest))),
         Some(Letter::Digits(count)) => match hex(count, 0, rest) {
             None => Ok(None),
@@ -104,11 +104,11 @@ fn escaped(alloc: Global, flags: TextFlags, begin: usize, l: char, rest: &[char]
 }
 
 // After a backslash.
-pub(crate) fn escape(alloc: Global, flags: TextFlags, begin: usize, text: &[char]) -> Found
-    ensures { Reads (spec.escape_token flags begin text.now) result }
+pub(crate) fn escape(alloc: Global, flags: TextFlags, at: usize, text: &[char]) -> Found
+    ensures { Reads (spec.escape_token flags at text.now) result }
 {
     match text {
         [] => Ok(None),
-        [l, rest @ ..] => escaped(alloc, flags, begin, *l, rest),
+        [l, rest @ ..] => escaped(alloc, flags, at, *l, rest),
     }
 }

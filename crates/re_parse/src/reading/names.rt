@@ -26,7 +26,6 @@ pub(crate) fn up_to(end: char, text: &[char]) -> Option<(&[char], &[char])>
     None
 }
 
-// Puts a character at the end.
 fn push(text: &mut String, c: char) -> Result<(), AllocError>
     ensures { OnOk result (points text.new ≡ points text.old ++ c ∷ []) }
 {
@@ -34,7 +33,6 @@ fn push(text: &mut String, c: char) -> Result<(), AllocError>
     Ok(())
 }
 
-// A text of these characters.
 pub(crate) fn name(alloc: Global, characters: &[char]) -> Result<PyStr, AllocError>
     ensures { IfOk result (λ made. made ≡ characters.now) }
 {

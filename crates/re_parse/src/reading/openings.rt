@@ -12,117 +12,107 @@ use crate::reading::names::{group, name, up_to};
 use crate::token::{GroupName, Opening, Token};
 use std::alloc::{AllocError, Global};
 
-// A token of an opening parenthesis.
-fn open(begin: usize, opening: Opening, rest: &[char]) -> Found
-    ensures { Reads (Some (open_token begin (opening_of opening), rest.now)) result }
+fn open(at: usize, opening: Opening, rest: &[char]) -> Found
+    ensures { Reads (Some (open_token at (opening_of opening), rest.now)) result }
 {
-    Ok(Some((Token::Open(begin, opening), rest)))
+    Ok(Some((Token::Open(at, opening), rest)))
 }
 
-// A lookaround.
-fn look(begin: usize, positive: bool, behind: bool, rest: &[char]) -> Found
-    ensures { Reads (Some (open_token begin (look_opening positive behind), rest.now)) result }
+fn look(at: usize, positive: bool, behind: bool, rest: &[char]) -> Found
+    ensures { Reads (Some (open_token at (look_opening positive behind), rest.now)) result }
 {
-    open(begin, Opening::Look { positive, behind }, rest)
+    open(at, Opening::Look { positive, behind }, rest)
 }
 
 // A lookbehind, after `(?<`.
-fn lookbehind(begin: usize, text: &[char]) -> Found
-    ensures { Reads (spec.lookbehind_token begin text.now) result }
+fn lookbehind(at: usize, text: &[char]) -> Found
+    ensures { Reads (spec.lookbehind_token at text.now) result }
 {
     match text {
-        ['=', rest @ ..] => look(begin, true, true, rest),
-        ['!', rest @ ..] => look(begin, false, true, rest),
+        ['=', rest @ ..] => look(at, true, true, rest),
+        ['!', rest @ ..] => look(at, false, true, rest),
         _ => Ok(None),
     }
 }
 
 // A group with a name, after `(?P<`.
-fn named_group(alloc: Global, begin: usize, text: &[char]) -> Found
-    ensures { Reads (spec.named_opening begin (spec.up_to 62 text.now)) result }
+fn named_group(alloc: Global, at: usize, text: &[char]) -> Found
+    ensures { Reads (spec.named_opening at (spec.up_to 62 text.now)) result }
 {
     match up_to('>', text) {
         None => Ok(None),
         Some((characters, rest)) => {
-            open(
-                begin,
-                Opening::Capturing(Some(name(alloc, characters)?)),
-                rest,
-            )
+            open(at, Opening::Capturing(Some(name(alloc, characters)?)), rest)
         }
     }
 }
 
 // A back reference by name, after `(?P=`.
-fn named_reference(alloc: Global, begin: usize, text: &[char]) -> Found
-    ensures { Reads (spec.named_reference begin (spec.up_to 41 text.now)) result }
+fn named_reference(alloc: Global, at: usize, text: &[char]) -> Found
+    ensures { Reads (spec.named_reference at (spec.up_to 41 text.now)) result }
 {
     match up_to(')', text) {
         None => Ok(None),
         Some((characters, rest)) => {
             let id = GroupName::Name(name(alloc, characters)?);
-            Ok(Some((Token::Reference(begin, id), rest)))
+            Ok(Some((Token::Reference(at, id), rest)))
         }
     }
 }
 
 // After `(?P`.
-fn named(alloc: Global, begin: usize, text: &[char]) -> Found
-    ensures { Reads (spec.name_token begin text.now) result }
+fn named(alloc: Global, at: usize, text: &[char]) -> Found
+    ensures { Reads (spec.name_token at text.now) result }
 {
     match text {
-        ['<', rest @ ..] => named_group(alloc, begin, rest),
-        ['=', rest @ ..] => named_reference(alloc, begin, rest),
+        ['<', rest @ ..] => named_group(alloc, at, rest),
+        ['=', rest @ ..] => named_reference(alloc, at, rest),
         _ => Ok(None),
     }
 }
 
 // A conditional, after `(?(`.
-fn conditional(alloc: Global, begin: usize, text: &[char]) -> Found
-    ensures { Reads (spec.named_conditional begin (spec.up_to 41 text.now)) result }
+fn conditional(alloc: Global, at: usize, text: &[char]) -> Found
+    ensures { Reads (spec.named_conditional at (spec.up_to 41 text.now)) result }
 {
     match up_to(')', text) {
         None => Ok(None),
-        Some((characters, rest)) => open(
-            begin,
-            Opening::Conditional(group(alloc, characters)?),
-            rest,
-        ),
+        Some((characters, rest)) => open(at, Opening::Conditional(group(alloc, characters)?), rest),
     }
 }
 
 // After `(?` and this character.
-fn extension(alloc: Global, begin: usize, c: char, rest: &[char]) -> Found
-    ensures { Reads (spec.extension_token (find extensions c) begin rest.now) result }
+fn extension(alloc: Global, at: usize, c: char, rest: &[char]) -> Found
+    ensures { Reads (spec.extension_token (find extensions c) at rest.now) result }
 {
     match c {
-        ':' => open(begin, Opening::NonCapturing, rest),
-        '>' => open(begin, Opening::Atomic, rest),
-        '=' => look(begin, true, false, rest),
-        '!' => look(begin, false, false, rest),
-        '<' => lookbehind(begin, rest),
-        'P' => named(alloc, begin, rest),
-        '(' => conditional(alloc, begin, rest),
+        ':' => open(at, Opening::NonCapturing, rest),
+        '>' => open(at, Opening::Atomic, rest),
+        '=' => look(at, true, false, rest),
+        '!' => look(at, false, false, rest),
+        '<' => lookbehind(at, rest),
+        'P' => named(alloc, at, rest),
+        '(' => conditional(alloc, at, rest),
         _ => Ok(None),
     }
 }
 
 // After `(?`.
-fn extended(alloc: Global, begin: usize, text: &[char]) -> Found
-    ensures { Reads (spec.extended begin text.now) result }
+fn extended(alloc: Global, at: usize, text: &[char]) -> Found
+    ensures { Reads (spec.extended at text.now) result }
 {
     match text {
         [] => Ok(None),
-        [c, rest @ ..] => extension(alloc, begin, *c, rest),
+        [c, rest @ ..] => extension(alloc, at, *c, rest),
     }
 }
 
 // After a `(`.
-pub(crate) fn opening(alloc: Global, begin: usize, text: &[char]) -> Found
-    ensures { Reads (spec.opening_token begin text.now) result }
+pub(crate) fn opening(alloc: Global, at: usize, text: &[char]) -> Found
+    ensures { Reads (spec.opening_token at text.now) result }
 {
     match text {
-        ['?', rest @ ..] => extended(alloc, begin, rest),
-        _ => open(begin, Opening::Capturing(None), text),
+        ['?', rest @ ..] => extended(alloc, at, rest),
+        _ => open(at, Opening::Capturing(None), text),
     }
 }

@@ -16,7 +16,6 @@ use crate::token::Token;
 use re_tree::{TextFlags, UnitItem, UnitItems, UnitTest};
 use std::alloc::{AllocError, Global};
 
-// Whether a `]` is next.
 fn is_end(text: &[char]) -> bool
     ensures { result ≡ first_is (λ c. c == 93) text.now }
 {

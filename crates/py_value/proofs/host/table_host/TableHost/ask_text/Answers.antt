@@ -2,6 +2,6 @@ use Rattle.py_value.specs.Plain.{str}
 use Rattle.py_value.proofs.HostLemmas.{failed_tells}
 use Rattle.py_value.proofs.host.table_host.TableHost.ask_text.Goals as goal
 
-pub returns-then-count-clause-tells : goal.returns-then-count-clause-tells
-returns-then-count-clause-tells c =
-    failed_tells c.args.handle c.args.method (str c.args.key.now) c.args.self.now c.count.new.self c.count.ensures.after c.count.ensures.later (c.count.ensures.rose c.if-count.true)
+pub returns-then-count_call-clause-tells : goal.returns-then-count_call-clause-tells
+returns-then-count_call-clause-tells c =
+    failed_tells c.args.handle c.args.method (str c.args.key.now) c.args.self.now c.count_call.new.self c.count_call.ensures.after c.count_call.ensures.later (c.count_call.ensures.rose c.if-count_call.true)

@@ -1,0 +1,6 @@
+mod ErrorLemmas
+mod FoldLemmas
+mod ItemLemmas
+mod LiteralLemmas
+mod OutcomeLemmas
+mod SilenceLemmas

@@ -1,0 +1,4 @@
+-- Percent formatting.
+pub mod Fold
+pub mod Taking
+pub mod Values

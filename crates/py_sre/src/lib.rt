@@ -1,0 +1,10 @@
+//! Patterns, with their flags and the names of their groups.
+#![tactic(auto)]
+
+mod flags;
+mod names;
+mod pattern;
+
+pub use flags::{CODESIZE, MAGIC, MAXGROUPS, MAXREPEAT, SreFlag, ascii_iscased, getcodesize};
+pub use names::{GroupIndex, GroupNames};
+pub use pattern::{Pattern, PatternRef, PatternSource, compile, pattern_ref};

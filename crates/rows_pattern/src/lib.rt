@@ -1,0 +1,5 @@
+//! Tests of py_sre: each call once on its happy path, and each error.
+#![tactic(auto)]
+
+#[cfg(test)]
+mod patterns;
