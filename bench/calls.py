@@ -1,7 +1,7 @@
 #!/usr/bin/env python3
 """Times calls on texts and integers of the program `bench_driver` beside the same calls of CPython.
 
-    python3 bench/calls.py [CASE ..] [--sizes N ..] [--seconds S] [--runs N] [--program PATH]
+    python3 bench/calls.py [CASE ..] [--sizes N ..] [--seconds S | --calls N] [--runs N] [--program PATH]
     python3 bench/calls.py --instructions [CASE ..] [--sizes N ..] [--jobs N] [--program PATH]
 
 Build the program first: `cd crates/bench_driver && rt run -- modpow 0 1000`.
@@ -10,6 +10,9 @@ Each case is one call, made so often that ours take about S seconds of processor
 time of the same process with no call is taken off: its start, and making the text. CPython makes the same
 calls as often, on the same texts and integers. At least five calls are made, of both. Both times are those of the whole loop, which adds what the
 calls give to a sum, and both sums have to be the same. Of a few runs the shortest counts.
+
+With --calls as many calls are made as it says, whatever they take: the sums are compared, and the times tell
+little where they are few.
 
 With --instructions both are counted in instructions, by valgrind: those of a process with a few calls less
 those of a process with none.
@@ -301,7 +304,7 @@ def calibrated(program, case, size, seconds):
 
 def measured(asked, case, size):
     """The line of a case: size, calls, nanoseconds a call of both, and whether the sums agree."""
-    times, one = calibrated(asked.program, case, size, asked.seconds)
+    times, one = (asked.calls, 0) if asked.calls else calibrated(asked.program, case, size, asked.seconds)
     if one > 1 and size > 1_000_000:
         return measured(asked, case, 1_000_000)
     calls, runs = cpython(case, size), range(asked.runs)
@@ -371,6 +374,7 @@ def main(words=None):
     parser.add_argument("--sizes", type=int, nargs="+", metavar="N",
                         help="of the texts, in characters (1000 10000000; 1000 for instructions)")
     parser.add_argument("--seconds", type=float, default=0.3, metavar="S", help="that a run takes about (0.3)")
+    parser.add_argument("--calls", type=int, metavar="N", help="that a run makes, in place of --seconds")
     parser.add_argument("--runs", type=int, default=3, metavar="N", help="of which the shortest time counts (3)")
     parser.add_argument("--instructions", action="store_true", help="count instructions by valgrind")
     parser.add_argument("--jobs", type=int, default=os.cpu_count(), metavar="N", help="of --instructions, side by side")
