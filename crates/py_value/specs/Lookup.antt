@@ -1,5 +1,5 @@
 -- The items and attributes of values, by the rules of Python.
-use Rattle.std.specs.Prelude.{ℕ, ◌+◌, ◌-◌, nat_lt, slice_get, if◌then◌else◌, length, Bool, true, false, List, [], ◌∷◌, ℤ, pos, negsuc, Option, Some, None, is_some, Result, Ok, Err, ok_or}
+use Rattle.std.specs.Prelude.{◌≡◌, ◌⊎◌, ℕ, ◌+◌, ◌-◌, nat_lt, slice_get, if◌then◌else◌, length, Bool, true, false, List, [], ◌∷◌, ℤ, pos, negsuc, Option, Some, None, is_some, Result, Ok, Err, ok_or}
 use Rattle.std.specs.Option.{option_map}
 use Rattle.py_base.specs.declared.error.type_names.ClassName.{ClassName}
 use Rattle.py_base.specs.declared.error.type_names.ClassName.TheVariants.{Int as IntClass, Str as StrClass, Object}
@@ -74,6 +74,11 @@ abbrev pub char_at : List ℕ → Result ℤ PyError → Result (List ℕ) PyErr
 char_at cs (Ok z) = ok_or (option_map (λ c. c ∷ []) (item_of cs z)) IndexOutOfRange
 char_at cs (Err e) = Err e
 
+-- a key that is not there
+abbrev pub missing : Result DictKey PyError → Result Plain PyError
+missing (Ok key) = found_under key None
+missing (Err e) = Err e
+
 -- a handle that has items is asked with the key as it is
 abbrev pub handle_item : ℕ → Plain → Bool → Asking Plain
 handle_item h k false = gives (Err (NotSubscriptable Object))
@@ -98,8 +103,14 @@ item_takes_memory (str cs) k = is_some (integer_of k)
 item_takes_memory (tuple vs) k = is_some (integer_of k)
 item_takes_memory (list vs) k = is_some (integer_of k)
 item_takes_memory (dict es) k = is_some (key_of k)
-item_takes_memory (handle h) k = true
 item_takes_memory v k = false
+
+-- memory ran out where an item was looked up: in a copy of it, in the host, or in the name of a key
+-- that the host does not have
+abbrev pub ItemRanOut : Plain → Plain → Seen → Seen → Type 0
+ItemRanOut (handle h) k old new =
+    Tells h GetItem k old new (Err RanOut) ⊎ Tells h GetItem k old new (Ok None)
+ItemRanOut v k old new = item_takes_memory v k ≡ true
 
 -- the errors of `v[k]`
 abbrev pub item_error : PyError → Bool

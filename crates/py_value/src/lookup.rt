@@ -111,17 +111,39 @@ fn dict_item(alloc: Global, dict: &PyDict, key: &DictKey) -> PyResult<Value>
     }
 }
 
+// Whether the value is a key.
+fn is_key(key: &Value) -> bool
+    ensures { result ≡ is_some (spec.key_of (plain_of key.now)) }
+{
+    match key {
+        Value::Bool(_) | Value::Int(_) | Value::Str(_) | Value::Bytes(_) => true,
+        _ => false,
+    }
+}
+
+// The error for a key that is not there.
+fn missing(alloc: Global, key: &Value) -> PyResult<Value>
+    ensures { Meets (spec.missing (spec.key_of_value (plain_of key.now))) (plainly result) }
+{
+    let name = name_of(alloc, &key_of_value(alloc, key)?)?;
+    Err(PyError::Key(name))
+}
+
 fn handle_item<H: Host>(alloc: Global, host: &mut H, handle: u64, key: &Value) -> PyResult<Value>
-    ensures { Answers (spec.item (handle_of handle) (plain_of key.now))
+    ensures answers { Answers (spec.item (handle_of handle) (plain_of key.now))
         (H.seen host.old) (H.seen host.new) (plainly result) }
+    ensures free { result ≡ Err PyError.NoMemory → spec.ItemRanOut
+        (handle_of handle) (plain_of key.now) (H.seen host.old) (H.seen host.new) }
 {
     if !host.has_getitem(handle) {
         return Err(PyError::NotSubscriptable(ClassName::Object));
     }
-    let name = key_of_value(alloc, key)?;
+    if !is_key(key) {
+        return Err(PyError::Downcast(ClassName::Str, key.class()));
+    }
     match host.get_item(handle, key) {
         Ok(Some(value)) => Ok(value),
-        Ok(None) => Err(PyError::Key(name_of(alloc, &name)?)),
+        Ok(None) => missing(alloc, key),
         Err(HostAnswer::Failed) => Err(PyError::HostFault),
         Err(HostAnswer::NoMemory) => Err(PyError::NoMemory),
     }
@@ -133,14 +155,15 @@ fn handle_item<H: Host>(alloc: Global, host: &mut H, handle: u64, key: &Value) -
 /// # Errors
 ///
 /// `NotSubscriptable` by the class of the value, then `Downcast` by that of the key, then
-/// `IndexOutOfRange`, `TupleIndex` or `Key` where nothing is there. A byte takes no memory.
+/// `IndexOutOfRange`, `TupleIndex` or `Key` where nothing is there. A byte takes no memory, and a
+/// handle's item none but what its host takes and, where it is not there, the name of its key.
 pub fn get_item<H: Host>(alloc: Global, host: &mut H, obj: &Value, key: &Value) -> PyResult<Value>
     ensures answers { Answers (spec.item (plain_of obj.now) (plain_of key.now))
         (H.seen host.old) (H.seen host.new) (plainly result) }
     ensures quiet { silent (spec.item (plain_of obj.now) (plain_of key.now)) ≡ true
         → host.new ≡ host.old }
-    ensures free { result ≡ Err PyError.NoMemory
-        → spec.item_takes_memory (plain_of obj.now) (plain_of key.now) ≡ true }
+    ensures free { result ≡ Err PyError.NoMemory → spec.ItemRanOut
+        (plain_of obj.now) (plain_of key.now) (H.seen host.old) (H.seen host.new) }
 {
     match obj {
         Value::Str(text) => text_item(alloc, text, index_of(key)?),

@@ -1,10 +1,11 @@
 //! The methods of Python's `str` that are handed values.
 
-ghost use Rattle.std.specs.Prelude.{◌≡◌, ℕ, List};
+ghost use Rattle.std.specs.Prelude.{◌≡◌, ℕ, List, true};
 ghost use Rattle.py_value.specs.Affix as spec;
 ghost use Rattle.py_value.specs.Asking.{Meets};
 ghost use Rattle.py_value.specs.Lookup.{char_at, index_of};
 ghost use Rattle.py_value.specs.Maketrans as tables;
+ghost use Rattle.py_value.specs.Plain.{bare};
 ghost use Rattle.py_value.specs.Translate.{Translates};
 ghost use Rattle.py_value.specs.ValueView.{plain_of};
 
@@ -65,8 +66,9 @@ pub trait StrValues {
     ///
     /// `NotSubscriptable` before any character, and `Translate` where the table has another value.
     fn translate<H: Host>(&self, alloc: Global, host: &mut H, table: &Value) -> PyResult<PyStr>
-        ensures { Translates (plain_of table.now) (points self.now)
-            (H.seen host.old) (H.seen host.new) result };
+        ensures translates { Translates (plain_of table.now) (points self.now)
+            (H.seen host.old) (H.seen host.new) result }
+        ensures quiet { bare (plain_of table.now) ≡ true → host.new ≡ host.old };
 
     /// A table for `translate`, by code points: of a dictionary, or of texts whose characters
     /// replace one another, with those that are dropped. (Python Library Reference, String Methods,

@@ -1,7 +1,8 @@
 //! Texts whose characters a table replaces.
 
-ghost use Rattle.std.specs.Prelude.{◌≡◌, pos, chars};
+ghost use Rattle.std.specs.Prelude.{◌≡◌, true, pos, chars};
 ghost use Rattle.py_value.specs.Asking.{Comes, Meets};
+ghost use Rattle.py_value.specs.Plain.{bare};
 ghost use Rattle.py_value.specs.Printing.{written};
 ghost use Rattle.py_value.specs.Translate as spec;
 ghost use Rattle.py_value.specs.ValueView.{plain_of};
@@ -81,6 +82,7 @@ fn put_found(out: &mut PyStr, found: &Value) -> PyResult<()>
 }
 
 // Puts what the table has for a character at the end, or the character where the look-up fails.
+#[tactic(auto, using(crate::proofs::SilenceLemmas::item_silent))]
 fn put_looked_up<H: Host>(
     alloc: Global,
     host: &mut H,
@@ -88,8 +90,9 @@ fn put_looked_up<H: Host>(
     table: &Value,
     c: char,
 ) -> PyResult<()>
-    ensures { spec.Puts (plain_of table.now) c out.old
+    ensures puts { spec.Puts (plain_of table.now) c out.old
         (H.seen host.old) (H.seen host.new) (written result out.new) }
+    ensures quiet { bare (plain_of table.now) ≡ true → host.new ≡ host.old }
 {
     let key = Value::Int(code_of(c));
     match get_item(alloc, host, table, &key) {
@@ -110,8 +113,9 @@ fn put_all<H: Host>(
     table: &Value,
     text: &str,
 ) -> PyResult<()>
-    ensures { spec.GoesOn (plain_of table.now) (chars text.now) out.old
+    ensures goes_on { spec.GoesOn (plain_of table.now) (chars text.now) out.old
         (H.seen host.old) (H.seen host.new) (written result out.new) }
+    ensures quiet { bare (plain_of table.now) ≡ true → host.new ≡ host.old }
 {
     let mut rest = text.chars();
     'chars: while let Some(c) = rest.next() {
@@ -127,8 +131,9 @@ pub(crate) fn translate<H: Host>(
     host: &mut H,
     table: &Value,
 ) -> PyResult<PyStr>
-    ensures { spec.Translates (plain_of table.now) text.now
+    ensures translates { spec.Translates (plain_of table.now) text.now
         (H.seen host.old) (H.seen host.new) result }
+    ensures quiet { bare (plain_of table.now) ≡ true → host.new ≡ host.old }
 {
     test_items(host, table)?;
     let mut out = PyStr::with_capacity(alloc, text.byte_len())?;
