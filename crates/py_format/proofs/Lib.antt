@@ -4,3 +4,4 @@ mod ItemLemmas
 mod LiteralLemmas
 mod OutcomeLemmas
 mod SilenceLemmas
+mod StayLemmas

@@ -1,5 +1,7 @@
 -- Laws of percent formatting.
-use Rattle.std.specs.Prelude.{◌≡◌, ℕ, ◌&&◌, ◌||◌, Bool, true, false, List, [], ◌∷◌, ◌++◌, Ok}
+use Rattle.std.specs.Prelude.{◌≡◌, ◌==◌, ℕ, ◌&&◌, ◌||◌, Bool, true, false, List, [], ◌∷◌, ◌++◌, Ok}
+use Rattle.py_base.specs.declared.error.percent.PercentFault.TheVariants.{UnsupportedChar}
+use Rattle.py_base.specs.declared.error.type_names.PrimitiveName.TheVariants.{I32}
 use Rattle.py_base.specs.declared.error.PyError.{PyError}
 use Rattle.py_base.specs.declared.error.PyError.TheVariants.{IntTooLargeFor, PercentParse, PercentArgs, CharRange}
 use Rattle.py_spec.specs.Laws.{is_literal}
@@ -10,7 +12,7 @@ use Rattle.py_value.specs.Lookup.{item_error}
 use Rattle.py_value.specs.Plain.{Plain, bare}
 use Rattle.py_value.specs.Printing.{print_error}
 use Rattle.py_format.specs.declared.percent.kind.Kind.{Kind}
-use Rattle.py_format.specs.Percent.Fold.{literal, none_left, percent, put_all, put_all_by}
+use Rattle.py_format.specs.Percent.Fold.{is_mapping, literal, none_left, parts_of, percent, put_all}
 use Rattle.py_format.specs.Percent.Taking.{values_in}
 
 -- a template that is filled with a value without handles asks no host
@@ -18,12 +20,17 @@ abbrev pub BareAsksNothing : Type 0
 BareAsksNothing = (kind : Kind) (template : List ℕ) (v : Plain)
     → bare v ≡ true → silent (percent kind template v) ≡ true
 
--- the errors of a template and its values
+-- the type `b`, which a template of text cannot have
+abbrev pub type_b : ℕ
+type_b = 98
+
+-- the errors of a template that has been read and its values: a number for a `*` past 32 bits, what
+-- the arguments lack, the type `b` in a text, and a character past the last byte or code point
 abbrev pub own_error : PyError → Bool
-own_error (IntTooLargeFor _) = true
+own_error (IntTooLargeFor I32) = true
 own_error (PercentArgs _) = true
-own_error (PercentParse _ _) = true
-own_error (CharRange _) = true
+own_error (PercentParse (UnsupportedChar c) _) = c == type_b
+own_error (CharRange bound) = bound == 256 || bound == 0x110000
 own_error _ = false
 
 -- and of what is read, looked up and printed
@@ -46,8 +53,14 @@ literals kind (p ∷ ps) = literal kind p.1 ++ literals kind ps
 
 -- a template without specifiers makes its literals, where no value is left or the value is a mapping
 abbrev pub LiteralsAlone : Type 0
-LiteralsAlone = (kind : Kind) (mapping : Bool) (ps : Parts) (v : Plain) (out : List ℕ)
-    → all_literal ps ≡ true
-    → put_all_by (specifiers_of ps) kind mapping ps v out
-    ≡ (gives (none_left kind mapping (values_in v)) and_then λ u.
-    gives (Ok (out ++ literals kind ps)))
+LiteralsAlone = (kind : Kind) (template : List ℕ) (ps : Parts) (v : Plain)
+    → parts_of kind template ≡ Ok ps → all_literal ps ≡ true
+    → percent kind template v
+    ≡ (is_mapping kind v and_then λ mapping.
+    gives (none_left kind mapping (values_in v)) and_then λ u.
+    gives (Ok (literals kind ps)))
+
+-- what is written comes after what was written before, and does not depend on it
+abbrev pub WrittenStays : Type 0
+WrittenStays = (kind : Kind) (ps : Parts) (v : Plain) (out : List ℕ)
+    → put_all kind ps v out ≡ (put_all kind ps v [] and_then λ t. gives (Ok (out ++ t)))

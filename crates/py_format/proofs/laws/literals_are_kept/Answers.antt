@@ -1,5 +1,5 @@
-use Rattle.py_format.proofs.LiteralLemmas.{literals_kept}
+use Rattle.py_format.proofs.LiteralLemmas.{template_kept}
 use Rattle.py_format.proofs.laws.literals_are_kept.Goals as goal
 
 pub returns : goal.returns
-returns c = literals_kept
+returns c = template_kept
