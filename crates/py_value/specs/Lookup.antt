@@ -96,21 +96,24 @@ item (dict es) k = gives (key_of_value k) and_then λ key. gives (found_under ke
 item (handle h) k = tests h (handle_item h k)
 item v k = gives (Err (NotSubscriptable (class_of v)))
 
--- a look-up by a key of the right class takes memory, since what is found is copied; one in bytes
--- finds a number
-abbrev pub item_takes_memory : Plain → Plain → Bool
-item_takes_memory (str cs) k = is_some (integer_of k)
-item_takes_memory (tuple vs) k = is_some (integer_of k)
-item_takes_memory (list vs) k = is_some (integer_of k)
-item_takes_memory (dict es) k = is_some (key_of k)
-item_takes_memory v k = false
+-- a look-up takes memory where it finds a value, of which it gives a copy, and where its error names
+-- a key
+abbrev pub takes_memory : Result Plain PyError → Bool
+takes_memory (Ok v) = true
+takes_memory (Err (Key _)) = true
+takes_memory (Err e) = false
 
--- memory ran out where an item was looked up: in a copy of it, in the host, or in the name of a key
--- that the host does not have
+abbrev pub look_up_takes_memory : Asking Plain → Bool
+look_up_takes_memory (gives r) = takes_memory r
+look_up_takes_memory call = false
+
+-- memory ran out where an item was looked up: in a copy of it, in a key, in the host, or in the name
+-- of a key that the host does not have; a byte is no copy
 abbrev pub ItemRanOut : Plain → Plain → Seen → Seen → Type 0
 ItemRanOut (handle h) k old new =
     Tells h GetItem k old new (Err RanOut) ⊎ Tells h GetItem k old new (Ok None)
-ItemRanOut v k old new = item_takes_memory v k ≡ true
+ItemRanOut (bytes bs) k old new = ⊥
+ItemRanOut v k old new = look_up_takes_memory (item v k) ≡ true
 
 -- the errors of `v[k]`
 abbrev pub item_error : PyError → Bool

@@ -1,5 +1,5 @@
 -- Tables by code points: `str.maketrans`.
-use Rattle.std.specs.Prelude.{ℕ, nat_eq, if◌then◌else◌, List, [], ◌∷◌, length, ℤ, pos, Option, Some, None, Result, Ok, Err}
+use Rattle.std.specs.Prelude.{ℕ, nat_eq, if◌then◌else◌, Bool, true, false, List, [], ◌∷◌, length, ℤ, pos, Option, Some, None, Result, Ok, Err}
 use Rattle.py_base.specs.declared.error.causes.MaketransKind.TheVariants.{EqualLength, KeyLength, NeedsDict, NeedsString}
 use Rattle.py_base.specs.declared.error.PyError.{PyError}
 use Rattle.py_base.specs.declared.error.PyError.TheVariants.{Maketrans}
@@ -58,6 +58,12 @@ maketrans (str cs) (Some ds) dropped =
 maketrans v (Some ds) dropped = Err (Maketrans NeedsString)
 maketrans (dict es) None dropped = put_keys es no_entries
 maketrans v None dropped = Err (Maketrans NeedsDict)
+
+-- the arguments are a text and one as long, or a dictionary alone
+abbrev pub fit : Plain → Option (List ℕ) → Bool
+fit (str cs) (Some ds) = nat_eq (length cs) (length ds)
+fit (dict es) None = true
+fit v to = false
 
 -- an argument, where it is given
 abbrev pub given : OptionalArg (List ℕ) → Option (List ℕ)

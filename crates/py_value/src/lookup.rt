@@ -2,6 +2,7 @@
 //! "Subscriptions" and "Attribute references".
 
 ghost use Rattle.std.specs.Prelude.{◌≡◌, true, is_some, Ok, Err};
+ghost use Rattle.std.specs.Result.{is_ok};
 ghost use Rattle.py_value.specs.Asking.{Answers, Meets, silent};
 ghost use Rattle.py_value.specs.Lookup as spec;
 ghost use Rattle.py_value.specs.Dict.{lookup};
@@ -64,7 +65,9 @@ fn place_in(len: usize, index: i128) -> Option<usize>
 }
 
 fn list_item(alloc: Global, list: &ValueList, index: i128) -> PyResult<Value>
-    ensures { Meets (spec.list_item list.now index) (plainly result) }
+    ensures item { Meets (spec.list_item list.now index) (plainly result) }
+    ensures free { result ≡ Err PyError.NoMemory
+        → spec.takes_memory (spec.list_item list.now index) ≡ true }
 {
     let Some(place) = place_in(list.len(), index) else {
         return Err(PyError::TupleIndex);
@@ -90,20 +93,25 @@ fn bytes_item(bytes: &PyBytes, index: i128) -> PyResult<Value>
 
 /// The text of the character at an index.
 pub(crate) fn char_at(alloc: Global, text: &PyStr, index: i128) -> PyResult<PyStr>
-    ensures { Meets (spec.char_at text.now (Ok index)) result }
+    ensures item { Meets (spec.char_at text.now (Ok index)) result }
+    ensures free { result ≡ Err PyError.NoMemory → is_ok (spec.char_at text.now (Ok index)) ≡ true }
 {
     let c = text.getitem_by_index(index)?;
     Ok(PyStr::from_char(alloc, c)?)
 }
 
 fn text_item(alloc: Global, text: &PyStr, index: i128) -> PyResult<Value>
-    ensures { Meets (spec.text_item text.now index) (plainly result) }
+    ensures item { Meets (spec.text_item text.now index) (plainly result) }
+    ensures free { result ≡ Err PyError.NoMemory
+        → spec.takes_memory (spec.text_item text.now index) ≡ true }
 {
     Ok(Value::Str(char_at(alloc, text, index)?))
 }
 
 fn dict_item(alloc: Global, dict: &PyDict, key: &DictKey) -> PyResult<Value>
-    ensures { Meets (spec.found_under key.now (lookup key.now dict.now)) (plainly result) }
+    ensures item { Meets (spec.found_under key.now (lookup key.now dict.now)) (plainly result) }
+    ensures free { result ≡ Err PyError.NoMemory
+        → spec.takes_memory (spec.found_under key.now (lookup key.now dict.now)) ≡ true }
 {
     match dict.get(key) {
         Some(value) => value.try_clone(alloc),
@@ -155,8 +163,8 @@ fn handle_item<H: Host>(alloc: Global, host: &mut H, handle: u64, key: &Value) -
 /// # Errors
 ///
 /// `NotSubscriptable` by the class of the value, then `Downcast` by that of the key, then
-/// `IndexOutOfRange`, `TupleIndex` or `Key` where nothing is there. A byte takes no memory, and a
-/// handle's item none but what its host takes and, where it is not there, the name of its key.
+/// `IndexOutOfRange`, `TupleIndex` or `Key` where nothing is there. Memory runs out only in a copy
+/// of what is there or of a key, or in the host; a byte takes none.
 pub fn get_item<H: Host>(alloc: Global, host: &mut H, obj: &Value, key: &Value) -> PyResult<Value>
     ensures answers { Answers (spec.item (plain_of obj.now) (plain_of key.now))
         (H.seen host.old) (H.seen host.new) (plainly result) }

@@ -1,6 +1,6 @@
 //! Tables by code points for `translate`.
 
-ghost use Rattle.std.specs.Prelude.{◌≡◌, pos, chars, option_copied, IfOk, OnOk, IsOkUnless};
+ghost use Rattle.std.specs.Prelude.{◌≡◌, pos, chars, option_copied, true, Err, IfOk, OnOk, IsOkUnless};
 ghost use Rattle.py_value.specs.Asking.{Meets};
 ghost use Rattle.py_value.specs.Dict.{put};
 ghost use Rattle.py_value.specs.Maketrans as spec;
@@ -128,8 +128,10 @@ pub(crate) fn maketrans(
     to_str: OptionalArg<PyStr>,
     none_str: OptionalArg<PyStr>,
 ) -> PyResult<PyDict>
-    ensures { Meets (spec.maketrans (plain_of dict_or_str)
+    ensures made { Meets (spec.maketrans (plain_of dict_or_str)
         (spec.given to_str) (spec.given none_str)) result }
+    ensures free { result ≡ Err PyError.NoMemory
+        → spec.fit (plain_of dict_or_str) (spec.given to_str) ≡ true }
 {
     let dropped = given(none_str);
     match (dict_or_str, given(to_str)) {

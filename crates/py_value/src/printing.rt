@@ -1,9 +1,9 @@
 //! How values are printed: `str`, `repr` and `ascii` of "Built-in Functions" of the Python Library
 //! Reference.
 
-ghost use Rattle.std.specs.Prelude.{◌≡◌, [], true};
+ghost use Rattle.std.specs.Prelude.{◌≡◌, [], true, nat_le, Err};
 ghost use Rattle.py_value.specs.Asking.{Answers, silent};
-ghost use Rattle.py_value.specs.Plain.{handle as handle_of};
+ghost use Rattle.py_value.specs.Plain.{handle as handle_of, depth};
 ghost use Rattle.py_value.specs.Printing as spec;
 ghost use Rattle.py_value.specs.ValueView.{plain_of};
 
@@ -31,6 +31,8 @@ pub fn repr_of<H: Host>(alloc: Global, host: &mut H, obj: &Value) -> PyResult<Py
     ensures answers { Answers (spec.repr_of (plain_of obj.now))
         (H.seen host.old) (H.seen host.new) result }
     ensures quiet { silent (spec.repr_of (plain_of obj.now)) ≡ true → host.new ≡ host.old }
+    ensures free { result ≡ Err PyError.NoMemory
+        → nat_le (depth (plain_of obj.now)) spec.greatest_depth ≡ true }
 {
     if !obj.fits_depth(GREATEST_DEPTH) {
         return Err(PyError::TooDeep);
@@ -80,6 +82,8 @@ pub fn str_of<H: Host>(alloc: Global, host: &mut H, obj: &Value) -> PyResult<PyS
     ensures answers { Answers (spec.str_of (plain_of obj.now))
         (H.seen host.old) (H.seen host.new) result }
     ensures quiet { silent (spec.str_of (plain_of obj.now)) ≡ true → host.new ≡ host.old }
+    ensures free { result ≡ Err PyError.NoMemory
+        → nat_le (depth (plain_of obj.now)) spec.greatest_depth ≡ true }
 {
     match obj {
         Value::Str(text) => Ok(text.try_clone(alloc)?),
@@ -97,6 +101,8 @@ pub fn ascii_of<H: Host>(alloc: Global, host: &mut H, obj: &Value) -> PyResult<P
     ensures answers { Answers (spec.ascii_of (plain_of obj.now))
         (H.seen host.old) (H.seen host.new) result }
     ensures quiet { silent (spec.ascii_of (plain_of obj.now)) ≡ true → host.new ≡ host.old }
+    ensures free { result ≡ Err PyError.NoMemory
+        → nat_le (depth (plain_of obj.now)) spec.greatest_depth ≡ true }
 {
     let text = repr_of(alloc, host, obj)?;
     escaped(alloc, text)

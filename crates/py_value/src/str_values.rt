@@ -1,19 +1,20 @@
 //! The methods of Python's `str` that are handed values.
 
-ghost use Rattle.std.specs.Prelude.{◌≡◌, ℕ, List, true};
+ghost use Rattle.std.specs.Prelude.{◌≡◌, ℕ, List, true, Ok, Err};
+ghost use Rattle.std.specs.Result.{is_ok};
 ghost use Rattle.py_value.specs.Affix as spec;
-ghost use Rattle.py_value.specs.Asking.{Meets};
+ghost use Rattle.py_value.specs.Asking.{Comes, Meets};
 ghost use Rattle.py_value.specs.Lookup.{char_at, index_of};
 ghost use Rattle.py_value.specs.Maketrans as tables;
 ghost use Rattle.py_value.specs.Plain.{bare};
-ghost use Rattle.py_value.specs.Translate.{Translates};
+ghost use Rattle.py_value.specs.Translate.{Translates, has_items};
 ghost use Rattle.py_value.specs.ValueView.{plain_of};
 
 use crate::affix::{Place, Side};
 use crate::host::Host;
 use crate::value::{PyDict, Value};
 use crate::{lookup, maketrans, translate};
-use py_base::{OptionalArg, PyResult};
+use py_base::{OptionalArg, PyError, PyResult};
 use py_text::PyStr;
 use std::alloc::Global;
 
@@ -29,7 +30,9 @@ pub trait StrValues {
     ///
     /// `Downcast` where the needle is neither an integer nor a bool, then `IndexOutOfRange`.
     fn getitem(&self, alloc: Global, needle: &Value) -> PyResult<PyStr>
-        ensures { Meets (char_at (points self.now) (index_of (plain_of needle.now))) result };
+        ensures item { Meets (char_at (points self.now) (index_of (plain_of needle.now))) result }
+        ensures free { result ≡ Err PyError.NoMemory
+            → is_ok (char_at (points self.now) (index_of (plain_of needle.now))) ≡ true };
 
     /// Whether the window from `start` to `end` begins with the text `affix`, or with a text of the
     /// tuple `affix`. It takes no memory. (Python Library Reference, String Methods,
@@ -68,7 +71,9 @@ pub trait StrValues {
     fn translate<H: Host>(&self, alloc: Global, host: &mut H, table: &Value) -> PyResult<PyStr>
         ensures translates { Translates (plain_of table.now) (points self.now)
             (H.seen host.old) (H.seen host.new) result }
-        ensures quiet { bare (plain_of table.now) ≡ true → host.new ≡ host.old };
+        ensures quiet { bare (plain_of table.now) ≡ true → host.new ≡ host.old }
+        ensures free { result ≡ Err PyError.NoMemory → Comes (H.seen host.old) (H.seen host.old)
+            (has_items (plain_of table.now)) (Ok tt) };
 
     /// A table for `translate`, by code points: of a dictionary, or of texts whose characters
     /// replace one another, with those that are dropped. (Python Library Reference, String Methods,
@@ -79,8 +84,10 @@ pub trait StrValues {
         to_str: OptionalArg<PyStr>,
         none_str: OptionalArg<PyStr>,
     ) -> PyResult<PyDict>
-        ensures { Meets (tables.maketrans (plain_of dict_or_str)
-            (tables.given to_str) (tables.given none_str)) result };
+        ensures made { Meets (tables.maketrans (plain_of dict_or_str)
+            (tables.given to_str) (tables.given none_str)) result }
+        ensures free { result ≡ Err PyError.NoMemory
+            → tables.fit (plain_of dict_or_str) (tables.given to_str) ≡ true };
 }
 
 impl StrValues for PyStr {

@@ -1,6 +1,6 @@
 //! Texts whose characters a table replaces.
 
-ghost use Rattle.std.specs.Prelude.{◌≡◌, true, pos, chars};
+ghost use Rattle.std.specs.Prelude.{◌≡◌, ◌≢◌, true, pos, chars, Ok, Err};
 ghost use Rattle.py_value.specs.Asking.{Comes, Meets};
 ghost use Rattle.py_value.specs.Plain.{bare};
 ghost use Rattle.py_value.specs.Printing.{written};
@@ -17,8 +17,9 @@ use std::alloc::Global;
 
 // Tests that the value has items.
 fn test_items<H: Host>(host: &H, table: &Value) -> PyResult<()>
-    ensures { Comes (H.seen host.now) (H.seen host.now)
+    ensures has { Comes (H.seen host.now) (H.seen host.now)
         (spec.has_items (plain_of table.now)) result }
+    ensures free { result ≢ Err PyError.NoMemory }
 {
     match table {
         Value::Str(_) | Value::Bytes(_) | Value::Tuple(_) | Value::List(_) | Value::Dict(_) => Ok(
@@ -134,6 +135,8 @@ pub(crate) fn translate<H: Host>(
     ensures translates { spec.Translates (plain_of table.now) text.now
         (H.seen host.old) (H.seen host.new) result }
     ensures quiet { bare (plain_of table.now) ≡ true → host.new ≡ host.old }
+    ensures free { result ≡ Err PyError.NoMemory → Comes (H.seen host.old) (H.seen host.old)
+        (spec.has_items (plain_of table.now)) (Ok tt) }
 {
     test_items(host, table)?;
     let mut out = PyStr::with_capacity(alloc, text.byte_len())?;

@@ -55,7 +55,7 @@ fn a_handle(rt: HostRuntime) -> PyResult<()> {
         assert_eq!(rt; made.as_str(), is);
     }
     let made = cformat_bytes(alloc, &mut host, b"%2b|", &Value::Handle(7))?;
-    assert_eq!(rt; made.as_bytes(), b" \xff|");
+    assert_eq!(rt; made.as_bytes(), b" \xff|".as_slice());
     Ok(())
 }
 

@@ -5,7 +5,7 @@ use crate::nested::ROWS;
 use py_base::{ClassName, PyError, PyResult};
 use py_text::PyStr;
 use py_value::{
-    Host, HostMethod, HostRow, HostTable, NoHost, TableHost, Value, ascii_of, repr_of, str_of,
+    Host, HostMethod, HostRow, HostTable, NoHost, TableHost, Value, ValueList, ascii_of, repr_of, str_of,
 };
 use std::alloc::Global;
 
@@ -53,8 +53,8 @@ fn texts_and_tuples(rt: HostRuntime) -> Result<(), PyError> {
     Ok(())
 }
 
-/// A host that answers the handle 7 by its repr alone.
-fn shows(alloc: Global, answer: Value) -> PyResult<TableHost> {
+/// A host that answers the handle 7 by its repr alone, and fails in some calls.
+fn failing(alloc: Global, answer: Value, fails: Vec<u64>) -> PyResult<TableHost> {
     let mut rows = HostTable::new(alloc);
     rows.push(HostRow {
         handle: 7,
@@ -62,7 +62,12 @@ fn shows(alloc: Global, answer: Value) -> PyResult<TableHost> {
         key: Value::None,
         answer,
     })?;
-    Ok(TableHost::new(alloc, rows, Vec::new(alloc)))
+    Ok(TableHost::new(alloc, rows, fails))
+}
+
+/// The same, without a failure.
+fn shows(alloc: Global, answer: Value) -> PyResult<TableHost> {
+    failing(alloc, answer, Vec::new(alloc))
 }
 
 // The text, the repr and the ascii of the handle 7.
@@ -103,5 +108,27 @@ fn handles_that_answer_another_class(rt: HostRuntime) -> Result<(), PyError> {
             Err(PyError::Downcast(ClassName::Str, ClassName::Int))
         )
     );
+    Ok(())
+}
+
+// The list of the handle 7, twice.
+fn twice(alloc: Global) -> PyResult<Value> {
+    let mut list = ValueList::new(alloc);
+    list.push(Value::Handle(7))?;
+    list.push(Value::Handle(7))?;
+    Ok(Value::List(list))
+}
+
+#[test]
+fn hosts_that_fail(rt: HostRuntime) -> Result<(), PyError> {
+    let alloc = rt.alloc();
+    let values = [Value::Handle(7), twice(alloc)?];
+    for (value, call) in values.iter().zip([1, 2]) {
+        let mut fails = Vec::new(alloc);
+        fails.push(call)?;
+        let mut host = failing(alloc, text(alloc, "x")?, fails)?;
+        let refused = repr_of(alloc, &mut host, value);
+        assert!(rt; matches!(refused, Err(PyError::HostFault)));
+    }
     Ok(())
 }

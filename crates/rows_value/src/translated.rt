@@ -80,15 +80,18 @@ fn tables_that_are_refused(rt: HostRuntime) -> Result<(), PyError> {
     let alloc = rt.alloc();
     let long = dict_of_one(alloc, key(alloc, "ab")?, int(1))?;
     let to = given(alloc, "a")?;
+    let (two, one) = (text(alloc, "ab")?, given(alloc, "x")?);
     let kinds = [
         no_table(table_from(alloc, Value::Dict(long))),
         no_table(table_from(alloc, int(1))),
         no_table(<PyStr as StrValues>::maketrans(alloc, int(1), to, OptionalArg::Missing)),
+        no_table(<PyStr as StrValues>::maketrans(alloc, two, one, OptionalArg::Missing)),
     ];
     let is = [
         MaketransKind::KeyLength,
         MaketransKind::NeedsDict,
         MaketransKind::NeedsString,
+        MaketransKind::EqualLength,
     ];
     assert_eq!(rt; kinds, is.map(Some));
     Ok(())
@@ -155,11 +158,13 @@ fn values_that_are_no_characters(rt: HostRuntime) -> Result<(), PyError> {
         no_text(alloc, &table, "\u{1}"),
         no_text(alloc, &table, "\u{2}"),
         no_text(alloc, &int(3), ""),
+        no_text(alloc, &Value::Handle(7), ""),
     ];
     let is = [
         Failure::Translate(TranslateKind::Range),
         Failure::Translate(TranslateKind::Kind),
         Failure::NotSubscriptable(ClassName::Int),
+        Failure::NotSubscriptable(ClassName::Object),
     ];
     assert_eq!(rt; failures, is.map(Some));
     Ok(())
