@@ -21,7 +21,8 @@ mixed h b = (bit_xor h b * fnv_prime) % 2 ^ 64
 -- the UTF-8 bytes, mixed in one after another
 abbrev pub text_hash : ℕ → List ℕ → ℤ
 text_hash seed L =
-    never_minus_one (cast_signed w64 (fold mixed (bit_xor seed fnv_offset_basis) (encode_utf8_all L)))
+    let hashed = fold mixed (bit_xor seed fnv_offset_basis) (encode_utf8_all L) in
+    never_minus_one (cast_signed w64 hashed)
 
 -- equal texts feed a hasher the same
 pub alike_texts : (a b : List ℕ) → pointwise nat_eq a b ≡ true

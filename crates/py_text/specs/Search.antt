@@ -20,7 +20,9 @@ place_or_minus_one (Some a) = pos a
 -- how many places of x there are in the window of L
 abbrev pub count : List ℕ → List ℕ → Option ℤ → Option ℤ → ℕ
 count x L start end =
-    length (occurrences (suc (length L)) x L (window_start (length L) start) (window_end (length L) end))
+    let s = window_start (length L) start in
+    let e = window_end (length L) end in
+    length (occurrences (suc (length L)) x L s e)
 
 -- the window of L begins with x
 abbrev pub begins_with : List ℕ → List ℕ → Option ℤ → Option ℤ → Bool
@@ -30,4 +32,5 @@ begins_with x L start end =
 -- the window of L ends with x
 abbrev pub ends_with : List ℕ → List ℕ → Option ℤ → Option ℤ → Bool
 ends_with x L start end =
-    let e = window_end (length L) end in occurs_at x L (window_start (length L) start) e (e - length x)
+    let e = window_end (length L) end in
+    occurs_at x L (window_start (length L) start) e (e - length x)

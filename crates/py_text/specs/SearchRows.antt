@@ -35,7 +35,8 @@ pub rwords_once : rsplit_whitespace 1 (codes " a  b ") ≡ codes " a" ∷ codes 
 rwords_once = refl
 
 -- `"a\r\nb\u{b}c".splitlines()`
-pub lines_of_three : split_lines false (97 ∷ 13 ∷ 10 ∷ 98 ∷ 11 ∷ 99 ∷ []) ≡ codes "a" ∷ codes "b" ∷ codes "c" ∷ []
+pub lines_of_three :
+    split_lines false (97 ∷ 13 ∷ 10 ∷ 98 ∷ 11 ∷ 99 ∷ []) ≡ codes "a" ∷ codes "b" ∷ codes "c" ∷ []
 lines_of_three = refl
 
 -- `"ab".replace("", "-")`

@@ -11,11 +11,13 @@ pub backwards : slice_of (codes "abc") None None (negsuc 0) ≡ codes "cba"
 backwards = refl
 
 -- "abcde"[-4:-1:2]
-pub counted_from_the_end : slice_of (codes "abcde") (Some (negsuc 3)) (Some (negsuc 0)) (pos 2) ≡ codes "bd"
+pub counted_from_the_end :
+    slice_of (codes "abcde") (Some (negsuc 3)) (Some (negsuc 0)) (pos 2) ≡ codes "bd"
 counted_from_the_end = refl
 
 -- "abcde"[9:-9:-2]
-pub cut_to_the_text : places_of 5 (Some (pos 9)) (Some (negsuc 8)) (negsuc 1) ≡ pos 4 ∷ pos 2 ∷ pos 0 ∷ []
+pub cut_to_the_text :
+    places_of 5 (Some (pos 9)) (Some (negsuc 8)) (negsuc 1) ≡ pos 4 ∷ pos 2 ∷ pos 0 ∷ []
 cut_to_the_text = refl
 
 -- "abc"[3:-1:-1] stops before the last place

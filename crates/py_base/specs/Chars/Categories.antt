@@ -15,9 +15,11 @@ is_ascii_word c = is_ascii_digit c || between 0x41 0x5A c || between 0x61 0x7A c
 abbrev pub is_word : ℕ → Bool
 is_word c = is_alnum c || c == 0x5F
 
--- the two numbers between the ASCII categories and the Unicode ones are CPython's locale categories, which are left out
+-- the two numbers between the ASCII categories and the Unicode ones are CPython's locale
+-- categories, which are left out
 abbrev pub is_category : ℕ → Bool
-is_category k = nat_le k CATEGORY_NOT_LINEBREAK || between CATEGORY_UNI_DIGIT CATEGORY_UNI_NOT_LINEBREAK k
+is_category k =
+    nat_le k CATEGORY_NOT_LINEBREAK || between CATEGORY_UNI_DIGIT CATEGORY_UNI_NOT_LINEBREAK k
 
 -- the categories that are no complement have even numbers
 abbrev pub even_category : ℕ → ℕ → Bool

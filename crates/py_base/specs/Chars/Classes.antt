@@ -67,7 +67,9 @@ is_alnum c = is_alphabetic c || is_numeric c
 
 -- the ASCII digits, and the superscript ones
 abbrev pub is_digit_char : ℕ → Bool
-is_digit_char c = between 0x30 0x39 c || c == 0xB2 || c == 0xB3 || c == 0xB9 || c == 0x2070 || between 0x2074 0x2079 c
+is_digit_char c =
+    between 0x30 0x39 c || c == 0xB2 || c == 0xB3 || c == 0xB9 || c == 0x2070
+    || between 0x2074 0x2079 c
 
 abbrev pub is_white : ℕ → Bool
 is_white c = is_character c && is_whitespace c
@@ -76,11 +78,13 @@ is_white c = is_character c && is_whitespace c
 abbrev pub is_space : ℕ → Bool
 is_space c =
     between 0x09 0x0D c || between 0x1C 0x1F c || c == 0x20 || c == 0x85 || c == 0xA0 || c == 0x1680
-    || between 0x2000 0x200A c || c == 0x2028 || c == 0x2029 || c == 0x202F || c == 0x205F || c == 0x3000
+    || between 0x2000 0x200A c || c == 0x2028 || c == 0x2029 || c == 0x202F || c == 0x205F
+    || c == 0x3000
 
 -- the line ends of `str.splitlines`
 abbrev pub is_line_end : ℕ → Bool
-is_line_end c = between 0x0A 0x0D c || between 0x1C 0x1E c || c == 0x85 || c == 0x2028 || c == 0x2029
+is_line_end c =
+    between 0x0A 0x0D c || between 0x1C 0x1E c || c == 0x85 || c == 0x2028 || c == 0x2029
 
 -- the space, and each character that is seen
 abbrev pub is_printable : ℕ → Bool

@@ -76,5 +76,8 @@ abbrev pub bytes_repr : List ℕ → List ℕ
 bytes_repr bs = 98 ∷ quoted is_plain_byte bs
 
 -- the formatter has written a text, as its UTF-8 bytes, where the result is Ok
-abbrev pub WritesText : {W : Type 0} → (W → List ℕ → W → Type 0) → Formatter W → Result (Unit {0}) Error → List ℕ → Formatter W → Type 0
-WritesText gives before result text after = WritesOnOk gives before result (encode_utf8_all text) after
+abbrev pub WritesText :
+    {W : Type 0} → (W → List ℕ → W → Type 0) → Formatter W → Result (Unit {0}) Error → List ℕ
+    → Formatter W → Type 0
+WritesText gives before result text after =
+    WritesOnOk gives before result (encode_utf8_all text) after

@@ -22,8 +22,13 @@ abbrev pub spec_fault_text : FormatSpecError → List ℕ
 spec_fault_text DecimalDigitsTooMany = codes "Too many decimal digits in format string"
 spec_fault_text PrecisionTooBig = codes "Precision too big"
 spec_fault_text InvalidFormatSpecifier = codes "Invalid format specifier"
-spec_fault_text (UnspecifiedFormat mark code) = codes "Cannot specify '" ++ (encode_utf8 mark ++ (codes "' with '" ++ (encode_utf8 code ++ codes "'.")))
-spec_fault_text (UnknownFormatCode code class) = codes "Unknown format code '" ++ (encode_utf8 code ++ (codes "' for object of type '" ++ (class_text class ++ codes "'")))
+spec_fault_text (UnspecifiedFormat mark code) =
+    codes "Cannot specify '" ++ (encode_utf8 mark ++ (codes "' with '" ++ (encode_utf8 code
+    ++ codes "'.")))
+spec_fault_text (UnknownFormatCode code class) =
+    codes "Unknown format code '" ++ (encode_utf8 code ++ (codes "' for object of type '"
+    ++ (class_text class ++ codes "'")))
 spec_fault_text PrecisionNotAllowed = codes "Precision not allowed in integer format specifier"
-spec_fault_text (NotAllowed part) = not_allowed_text part ++ codes " not allowed with integer format specifier 'c'"
+spec_fault_text (NotAllowed part) =
+    not_allowed_text part ++ codes " not allowed with integer format specifier 'c'"
 spec_fault_text CodeNotInRange = codes "%c arg not in range(0x110000)"

@@ -19,14 +19,17 @@ zero_text Modulo = codes "integer modulo by zero"
 zero_text Both = codes "integer division or modulo by zero"
 
 abbrev pub switch_text : SwitchKind → List ℕ
-switch_text ToAuto = codes "cannot switch from manual field specification to automatic field numbering"
-switch_text ToManual = codes "cannot switch from automatic field numbering to manual field specification"
+switch_text ToAuto =
+    codes "cannot switch from manual field specification to automatic field numbering"
+switch_text ToManual =
+    codes "cannot switch from automatic field numbering to manual field specification"
 
 abbrev pub maketrans_text : MaketransKind → List ℕ
 maketrans_text EqualLength = codes "the first two maketrans arguments must have equal length"
 maketrans_text KeyLength = codes "string keys in translate table must be of length 1"
 maketrans_text NeedsDict = codes "if you give only one argument to maketrans it must be a dict"
-maketrans_text NeedsString = codes "first maketrans argument must be a string if there is a second argument"
+maketrans_text NeedsString =
+    codes "first maketrans argument must be a string if there is a second argument"
 
 abbrev pub translate_text : TranslateKind → List ℕ
 translate_text Range = codes "character mapping must be in range(0x110000)"

@@ -14,7 +14,9 @@ use Rattle.py_base.specs.declared.error.PyError.TheVariants.{NoMemory, InvalidCo
 -- a bool is asked for in other words than the other classes
 abbrev pub downcast_text : ClassName → ClassName → List ℕ
 downcast_text Bool found = codes "Expected type bool, not " ++ class_text found
-downcast_text expected found = codes "Expected type '" ++ (class_text expected ++ (codes "' but '" ++ (class_text found ++ codes "' found.")))
+downcast_text expected found =
+    codes "Expected type '" ++ (class_text expected ++ (codes "' but '" ++ (class_text found
+    ++ codes "' found.")))
 
 -- the bytes that an error prints
 abbrev pub error_text : PyError → List ℕ
@@ -22,11 +24,15 @@ error_text NoMemory = codes "out of memory"
 error_text InvalidCode = codes "invalid SRE code"
 error_text InvalidTemplate = codes "invalid template"
 error_text ExpectedUsize = codes "expected usize"
-error_text (IntTooLargeFor name) = codes "Python int too large to convert to Rust " ++ primitive_text name
-error_text (TemplateGroup number count) = codes "template group " ++ (decimal number ++ (codes " is past " ++ decimal count))
-error_text (TemplatePiece place class) = codes "template item " ++ (decimal place ++ (codes " has class " ++ class_text class))
+error_text (IntTooLargeFor name) =
+    codes "Python int too large to convert to Rust " ++ primitive_text name
+error_text (TemplateGroup number count) =
+    codes "template group " ++ (decimal number ++ (codes " is past " ++ decimal count))
+error_text (TemplatePiece place class) =
+    codes "template item " ++ (decimal place ++ (codes " has class " ++ class_text class))
 error_text (ExpectedString class) = codes "expected string got '" ++ (class_text class ++ codes "'")
-error_text (ExpectedBytes class) = codes "a bytes-like object is required, not '" ++ (class_text class ++ codes "'")
+error_text (ExpectedBytes class) =
+    codes "a bytes-like object is required, not '" ++ (class_text class ++ codes "'")
 error_text NoSuchGroup = codes "no such group"
 error_text IntTooWide = codes "integer leaves 128 bits"
 error_text (ZeroDivision kind) = zero_text kind
@@ -45,7 +51,8 @@ error_text FillChar = codes "The fill character must be exactly one character lo
 error_text (Downcast expected found) = downcast_text expected found
 error_text (PercentParse fault place) = percent_fault_text fault place
 error_text (PercentArgs cause) = percent_cause_text cause
-error_text (CharRange bound) = if bound == 256 then codes "%c arg not in range(256)" else codes "%c arg not in range(0x110000)"
+error_text (CharRange bound) =
+    if bound == 256 then codes "%c arg not in range(256)" else codes "%c arg not in range(0x110000)"
 error_text (FormatParse fault) = brace_fault_text fault
 error_text (FormatSpec fault) = spec_fault_text fault
 error_text (NumberingSwitch kind) = switch_text kind
@@ -54,16 +61,21 @@ error_text (Key key) = key_text key
 error_text PositionalInMap = codes "Format string contains positional fields"
 error_text (Maketrans kind) = maketrans_text kind
 error_text (Translate kind) = translate_text kind
-error_text (NotSubscriptable class) = codes "'" ++ (class_text class ++ codes "' object is not subscriptable")
+error_text (NotSubscriptable class) =
+    codes "'" ++ (class_text class ++ codes "' object is not subscriptable")
 error_text TooDeep = codes "nesting past 200"
 error_text HostFault = codes "host fault"
 error_text (NotCarried kind) = carry_text kind
 error_text UnknownEncoding = codes "unknown encoding"
 error_text InvalidUtf8 = codes "invalid utf-8"
-error_text (NoAttribute class) = codes "'" ++ (class_text class ++ codes "' object has no such attribute")
-error_text (BoolType class) = codes "__bool__ should return bool, returned type " ++ class_text class
+error_text (NoAttribute class) =
+    codes "'" ++ (class_text class ++ codes "' object has no such attribute")
+error_text (BoolType class) =
+    codes "__bool__ should return bool, returned type " ++ class_text class
 error_text NegativeLen = codes "__len__() should return >= 0"
-error_text (NotAnIndex class) = codes "'" ++ (class_text class ++ codes "' object cannot be interpreted as an integer")
+error_text (NotAnIndex class) =
+    codes "'" ++ (class_text class ++ codes "' object cannot be interpreted as an integer")
 error_text (IntArgs kind) = int_args_text kind
-error_text (Unsupported class) = codes "unsupported format string passed to " ++ (class_text class ++ codes ".__format__")
+error_text (Unsupported class) =
+    codes "unsupported format string passed to " ++ (class_text class ++ codes ".__format__")
 error_text DurationRange = codes "value out of range"

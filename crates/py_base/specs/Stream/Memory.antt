@@ -29,7 +29,8 @@ abbrev pub room_of : List ℕ → ℕ → List ℕ → ℕ → ℕ → ℕ → R
 room_of held room fails most calls faults =
     record { held = held; room = room; fails = fails; most = most; calls = calls; faults = faults }
 
--- whether the call after so many calls fails: its number is one of those that fail, and not the last
+-- whether the call after so many calls fails: its number is one of those that fail, and not the
+-- last
 -- one of the type
 abbrev pub fails_after : List ℕ → ℕ → Bool
 fails_after fails calls =
