@@ -38,3 +38,13 @@ fn one_more_is_too_deep(rt: HostRuntime) -> Result<(), PyError> {
     );
     Ok(())
 }
+
+#[test]
+fn a_million_are_too_deep(rt: HostRuntime) -> Result<(), PyError> {
+    let alloc = rt.alloc();
+    let value = nested(alloc, 1_000_000)?;
+    let refused = repr_of(alloc, &mut NoHost, &value);
+    let fits = [value.fits_depth(999), value.fits_depth(200)];
+    assert!(rt; matches!(refused, Err(PyError::TooDeep)) && fits == [false, false]);
+    Ok(())
+}
