@@ -2,3 +2,5 @@ pub mod Codes
 pub mod Flags
 pub mod Names
 pub mod Pattern
+pub mod Replacing
+pub mod Pieces

@@ -1,9 +1,13 @@
 //! Patterns, with their flags and the names of their groups.
 #![tactic(auto)]
 
+mod built;
+mod engine;
+mod filling;
 mod flags;
 mod names;
 mod pattern;
+mod pieces;
 
 pub use flags::{CODESIZE, MAGIC, MAXGROUPS, MAXREPEAT, SreFlag, ascii_iscased, getcodesize};
 pub use names::{GroupIndex, GroupNames};
