@@ -1,3 +1,4 @@
+pub mod AsciiLemmas
 pub mod NameLemmas
 pub mod ReplacingLemmas
 pub mod WalkLemmas

@@ -41,6 +41,17 @@ pub(crate) trait Built<S: StrDrive, T>: Drop {
         ensures err { IsOkUnless result NoMemory };
 }
 
+// Appends ASCII bytes to a text.
+#[tactic(auto, using(crate::proofs::AsciiLemmas::ascii_is_utf8, crate::proofs::AsciiLemmas::ascii_chars))]
+fn append_ascii(text: &mut PyStr, bytes: &[u8]) -> PyResult<()>
+    requires { all_ascii bytes.now ≡ true }
+    ensures ok { OnOk result (text.new ≡ text.old ++ bytes.now) }
+    ensures err { IsOkUnless result NoMemory }
+{
+    let more = unsafe { str::from_utf8_unchecked(bytes) };
+    text.append_counted(more, bytes.len())
+}
+
 impl<'s> Built<TextView<'s>, PyStr> for PyStr {
     ghost units = { λ text. text };
 
@@ -69,5 +80,68 @@ impl<'s> Built<TextView<'s>, PyStr> for PyStr {
     ) -> PyResult<()> {
         let count = to.position() - from.position();
         self.append_counted(view.slice(from, to), count)
+    }
+}
+
+/// An ASCII text is read as bytes.
+impl<'s> Built<ByteView<'s>, PyStr> for PyStr {
+    ghost units = { λ text. text };
+
+    ghost literal_units = { λ text. text };
+
+    ghost takes = { λ units. all_ascii units ≡ true };
+
+    fn empty(alloc: Global) -> PyStr
+        ensures { result ≡ [] }
+    {
+        PyStr::from(String::new(alloc))
+    }
+
+    fn append_literal(&mut self, literal: &PyStr) -> PyResult<()>
+        ensures ok { OnOk result (self.new ≡ self.old ++ literal.now) }
+        ensures err { IsOkUnless result NoMemory }
+    {
+        self.append_counted(literal.as_str(), literal.len())
+    }
+
+    fn append_part(
+        &mut self,
+        view: &ByteView<'s>,
+        from: &StringCursor,
+        to: &StringCursor,
+    ) -> PyResult<()> {
+        append_ascii(self, view.slice(from, to))
+    }
+}
+
+impl<'s> Built<ByteView<'s>, PyBytes> for Vec<u8> {
+    ghost units = { λ bytes. bytes.items };
+
+    ghost literal_units = { λ bytes. bytes };
+
+    ghost takes = { λ _. ⊤ };
+
+    fn empty(alloc: Global) -> Vec<u8>
+        ensures { result.items ≡ [] }
+    {
+        Vec::new(alloc)
+    }
+
+    fn append_literal(&mut self, literal: &PyBytes) -> PyResult<()>
+        ensures ok { OnOk result (self.new.items ≡ self.old.items ++ literal.now) }
+        ensures err { IsOkUnless result NoMemory }
+    {
+        self.extend_from_slice(literal.as_bytes())?;
+        Ok(())
+    }
+
+    fn append_part(
+        &mut self,
+        view: &ByteView<'s>,
+        from: &StringCursor,
+        to: &StringCursor,
+    ) -> PyResult<()> {
+        self.extend_from_slice(view.slice(from, to))?;
+        Ok(())
     }
 }

@@ -28,14 +28,7 @@ pub(crate) fn moved_to<S: StrDrive>(view: &S, near: &StringCursor, place: usize)
 }
 
 // Appends the part between two places, or the literal of an unset group; a cursor is near.
-#[tactic(
-    auto,
-    using(
-        crate::proofs::ReplacingLemmas::nothing_between,
-        crate::proofs::ReplacingLemmas::cut_between,
-        crate::proofs::ReplacingLemmas::no_more
-    )
-)]
+#[tactic(auto, using(crate::proofs::ReplacingLemmas::nothing_between, crate::proofs::ReplacingLemmas::cut_between, crate::proofs::ReplacingLemmas::no_more))]
 fn append_between<S: StrDrive, T: Drop, B: Built<S, T>>(
     out: &mut B,
     unset: &T,

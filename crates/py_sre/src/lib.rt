@@ -8,6 +8,7 @@ mod flags;
 mod names;
 mod pattern;
 mod pieces;
+mod subjects;
 
 pub use flags::{CODESIZE, MAGIC, MAXGROUPS, MAXREPEAT, SreFlag, ascii_iscased, getcodesize};
 pub use names::{GroupIndex, GroupNames};

@@ -1,4 +1,4 @@
-use Rattle.std.proofs.Common.{◌≡◌, ℕ, ◌-◌, true, List, ◌++◌, Some, None, length, drop, refl, ap, sym, subst, ◌∙◌, arith}
+use Rattle.std.proofs.Common.{◌≡◌, ℕ, true, List, ◌++◌, Some, None, drop, refl, ap, sym, subst, ◌∙◌, arith}
 use Rattle.py_sre.proofs.ReplacingLemmas.{rest_whole}
 use Rattle.sre_match.specs.Matches.{Span}
 use Rattle.sre_match.specs.Search.{Search}
