@@ -26,8 +26,9 @@ use std::alloc::Global;
 ///
 /// # Errors
 ///
-/// The first fault of the template from the left, before any value is taken; then the first error
-/// of the parts, in their order.
+/// The first fault of the template from the left, before any value is taken. Then `NeedsMapping`
+/// where a part has a key and another none, or the values are no mapping; then the first error of
+/// the parts, in their order; and at the end `LeftOver` where a value was not taken.
 pub fn cformat_string<H: Host>(
     alloc: Global,
     host: &mut H,
@@ -56,8 +57,9 @@ pub fn cformat_string<H: Host>(
 ///
 /// # Errors
 ///
-/// The first fault of the template from the left, before any value is taken; then the first error
-/// of the parts, in their order.
+/// The first fault of the template from the left, before any value is taken. Then `NeedsMapping`
+/// where a part has a key and another none, or the values are no mapping; then the first error of
+/// the parts, in their order; and at the end `LeftOver` where a value was not taken.
 pub fn cformat_bytes<H: Host>(
     alloc: Global,
     host: &mut H,

@@ -28,7 +28,12 @@ fn table(alloc: Global) -> PyResult<HostTable> {
     let mut rows = HostTable::new(alloc);
     let text = Value::Str(PyStr::copy_of(alloc, "\u{e9}")?);
     let bytes = Value::Bytes(PyBytes::copy_of(alloc, b"\xff")?);
-    push(&mut rows, HostMethod::ToInt, Value::None, Value::Int(PyInt::from(42)))?;
+    push(
+        &mut rows,
+        HostMethod::ToInt,
+        Value::None,
+        Value::Int(PyInt::from(42)),
+    )?;
     push(&mut rows, HostMethod::StrOf, Value::None, text)?;
     push(&mut rows, HostMethod::ToBytes, Value::None, bytes)?;
     push_item(alloc, &mut rows)?;

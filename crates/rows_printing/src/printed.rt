@@ -5,7 +5,8 @@ use crate::nested::ROWS;
 use py_base::{ClassName, PyError, PyResult};
 use py_text::PyStr;
 use py_value::{
-    Host, HostMethod, HostRow, HostTable, NoHost, TableHost, Value, ValueList, ascii_of, repr_of, str_of,
+    Host, HostMethod, HostRow, HostTable, NoHost, TableHost, Value, ValueList, ascii_of, repr_of,
+    str_of,
 };
 use std::alloc::Global;
 
