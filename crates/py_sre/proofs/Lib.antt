@@ -2,3 +2,4 @@ pub mod AsciiLemmas
 pub mod NameLemmas
 pub mod ReplacingLemmas
 pub mod WalkLemmas
+mod ItemLemmas

@@ -5,3 +5,5 @@ pub mod Pattern
 pub mod Replacing
 pub mod ReplacingRows
 pub mod Pieces
+pub mod Template
+pub mod Substituting

@@ -165,6 +165,13 @@ impl Pattern {
         self.source.isbytes()
     }
 
+    /// The checked code.
+    pub(crate) fn checked(&self) -> &Checked
+        ensures { result.now ≡ self.now.code }
+    {
+        &self.code
+    }
+
     /// The code words.
     pub fn code(&self) -> &[u32]
         ensures { result.now ≡ self.now.code.words }

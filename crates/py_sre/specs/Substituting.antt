@@ -1,0 +1,75 @@
+-- What the calls of a pattern that replace its spans answer.
+use Rattle.std.specs.Prelude.{◌≡◌, ℕ, Bool, true, false, List, [], ◌∷◌, map, Option, Some, None, Result, Ok, Err}
+use denote.Bor.{Bor}
+use Rattle.py_base.specs.declared.error.PyError.{PyError}
+use Rattle.py_base.specs.declared.error.type_names.OptionalArg.{OptionalArg}
+use Rattle.py_base.specs.declared.error.type_names.OptionalArg.TheVariants.{Present, Missing}
+use Rattle.py_value.specs.Plain.{Plain}
+use Rattle.py_value.specs.ValueView.{plain_of}
+use Rattle.py_value.specs.declared.value.Value.{Value}
+use Rattle.py_sre.specs.Pattern.{PlainPattern}
+use Rattle.py_sre.specs.Pieces.{piece_of}
+use Rattle.py_sre.specs.Replacing.{Piece, literal, substituted, substitutions}
+use Rattle.py_sre.specs.Template.{◌and_ok◌, units_of, value_of}
+use Rattle.py_sre.specs.declared.template.Pieces.{Pieces}
+use Rattle.py_sre.specs.declared.template.Pieces.TheVariants.{Text, Bytes}
+use Rattle.py_sre.specs.declared.substituting.Repl.{Repl}
+use Rattle.py_sre.specs.declared.substituting.Repl.TheVariants.{Literal, Template}
+
+-- the pieces of a template in memory
+abbrev pub pieces_in : Pieces → List Piece
+pieces_in (Text ps) = map (piece_of (λ text. text)) ps.items
+pieces_in (Bytes ps) = map (piece_of (λ bytes. bytes)) ps.items
+
+-- whether they are of bytes
+abbrev pub are_of_bytes : Pieces → Bool
+are_of_bytes (Text ps) = false
+are_of_bytes (Bytes ps) = true
+
+-- a template is for patterns of this kind
+abbrev pub OfKind : Bool → Repl → Type 0
+OfKind is_bytes (Literal v) = Unit {0}
+OfKind is_bytes (Template t) = are_of_bytes t.pieces ≡ is_bytes
+
+-- the pieces of a replacement; a literal has to be of the pattern's kind
+abbrev pub pieces_of : Bool → Repl → Result (List Piece) PyError
+pieces_of is_bytes (Literal v) = units_of is_bytes (plain_of v) and_ok λ us. Ok (literal us ∷ [])
+pieces_of is_bytes (Template t) = Ok (pieces_in t.pieces)
+
+-- what an unset group adds: nothing, or a default, which has to be of the pattern's kind
+abbrev pub unset_of : Bool → Option Plain → Result (List ℕ) PyError
+unset_of is_bytes None = Ok []
+unset_of is_bytes (Some v) = units_of is_bytes v
+
+-- the subject with its first spans replaced by pieces, as many as the count, where 0 is none; and
+-- how many they were
+abbrev pub replaced_with : PlainPattern → List Piece → List ℕ → Plain → ℕ → Result (Plain × ℕ) PyError
+replaced_with p pieces unset subject count =
+    units_of p.is_bytes subject and_ok λ s.
+    Ok (value_of p.is_bytes
+    (substituted p.code.tree s count (record { pieces = pieces; unset = unset })),
+    substitutions p.code.tree s count)
+
+abbrev pub replaced_by : PlainPattern → List Piece → Plain → ℕ → Option Plain
+    → Result (Plain × ℕ) PyError
+replaced_by p pieces subject count default =
+    unset_of p.is_bytes default and_ok λ unset. replaced_with p pieces unset subject count
+
+-- and by a replacement
+abbrev pub subn : PlainPattern → Repl → Plain → ℕ → Option Plain → Result (Plain × ℕ) PyError
+subn p repl subject count default =
+    pieces_of p.is_bytes repl and_ok λ pieces. replaced_by p pieces subject count default
+
+-- the same without the number
+abbrev pub sub : PlainPattern → Repl → Plain → ℕ → Option Plain → Result Plain PyError
+sub p repl subject count default = subn p repl subject count default and_ok λ made. Ok made.0
+
+-- what a call in memory answers
+abbrev pub counted : Result (Value × ℕ) PyError → Result (Plain × ℕ) PyError
+counted (Ok made) = Ok (plain_of made.0, made.1)
+counted (Err e) = Err e
+
+-- a default, where it is given
+abbrev pub given : OptionalArg (Bor Value) → Option Plain
+given Missing = None
+given (Present v) = Some (plain_of v.now)
