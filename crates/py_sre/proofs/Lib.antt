@@ -3,3 +3,4 @@ pub mod NameLemmas
 pub mod ReplacingLemmas
 pub mod WalkLemmas
 mod ItemLemmas
+mod SubstituteLemmas

@@ -1,16 +1,20 @@
 -- What the calls of a pattern that replace its spans answer.
-use Rattle.std.specs.Prelude.{◌≡◌, ℕ, Bool, true, false, List, [], ◌∷◌, map, Option, Some, None, Result, Ok, Err}
+use Rattle.std.specs.Prelude.{◌≡◌, ◌⊎◌, ℕ, Bool, true, false, List, [], ◌∷◌, map, Option, Some, None, Result, Ok, Err}
 use denote.Bor.{Bor}
 use Rattle.py_base.specs.declared.error.PyError.{PyError}
+use Rattle.py_base.specs.declared.error.PyError.TheVariants.{InvalidCode}
 use Rattle.py_base.specs.declared.error.type_names.OptionalArg.{OptionalArg}
 use Rattle.py_base.specs.declared.error.type_names.OptionalArg.TheVariants.{Present, Missing}
-use Rattle.py_value.specs.Plain.{Plain}
+use Rattle.py_value.specs.Asking.{UnlessOutOfMemory}
+use Rattle.py_value.specs.Plain.{Plain, Plains}
 use Rattle.py_value.specs.ValueView.{plain_of}
 use Rattle.py_value.specs.declared.value.Value.{Value}
+use Rattle.sre_code.specs.PlainTree.{PlainTree}
+use Rattle.sre_code.specs.Spelling.{Spells, SpellsNothing}
 use Rattle.py_sre.specs.Pattern.{PlainPattern}
 use Rattle.py_sre.specs.Pieces.{piece_of}
 use Rattle.py_sre.specs.Replacing.{Piece, literal, substituted, substitutions}
-use Rattle.py_sre.specs.Template.{◌and_ok◌, units_of, value_of}
+use Rattle.py_sre.specs.Template.{◌and_ok◌, template, units_of, value_of}
 use Rattle.py_sre.specs.declared.template.Pieces.{Pieces}
 use Rattle.py_sre.specs.declared.template.Pieces.TheVariants.{Text, Bytes}
 use Rattle.py_sre.specs.declared.substituting.Repl.{Repl}
@@ -43,22 +47,40 @@ unset_of is_bytes (Some v) = units_of is_bytes v
 
 -- the subject with its first spans replaced by pieces, as many as the count, where 0 is none; and
 -- how many they were
-abbrev pub replaced_with : PlainPattern → List Piece → List ℕ → Plain → ℕ → Result (Plain × ℕ) PyError
-replaced_with p pieces unset subject count =
-    units_of p.is_bytes subject and_ok λ s.
-    Ok (value_of p.is_bytes
-    (substituted p.code.tree s count (record { pieces = pieces; unset = unset })),
-    substitutions p.code.tree s count)
-
-abbrev pub replaced_by : PlainPattern → List Piece → Plain → ℕ → Option Plain
+abbrev pub replaced_with : Bool → PlainTree → List Piece → List ℕ → Plain → ℕ
     → Result (Plain × ℕ) PyError
-replaced_by p pieces subject count default =
-    unset_of p.is_bytes default and_ok λ unset. replaced_with p pieces unset subject count
+replaced_with is_bytes t pieces unset subject count =
+    units_of is_bytes subject and_ok λ s.
+    Ok (
+      value_of is_bytes
+          (substituted t s count (record { pieces = pieces; unset = unset })),
+      substitutions t s count,
+    )
+
+abbrev pub replaced_by : Bool → PlainTree → List Piece → Plain → ℕ → Option Plain
+    → Result (Plain × ℕ) PyError
+replaced_by is_bytes t pieces subject count default =
+    unset_of is_bytes default and_ok λ unset. replaced_with is_bytes t pieces unset subject count
 
 -- and by a replacement
 abbrev pub subn : PlainPattern → Repl → Plain → ℕ → Option Plain → Result (Plain × ℕ) PyError
 subn p repl subject count default =
-    pieces_of p.is_bytes repl and_ok λ pieces. replaced_by p pieces subject count default
+    pieces_of p.is_bytes repl and_ok λ pieces.
+    replaced_by p.is_bytes p.code.tree pieces subject count default
+
+-- by the template of a list, for a tree with so many groups
+abbrev pub substitute : Bool → ℕ → Plains → Plain → ℕ → Option Plain → PlainTree
+    → Result (Plain × ℕ) PyError
+substitute is_bytes groups list subject count default t =
+    template is_bytes groups list and_ok λ pieces.
+    replaced_by is_bytes t pieces subject count default
+
+-- what the tree that the words spell answers, or `InvalidCode` where they spell none
+abbrev pub OfCode : List ℕ → ℕ → (PlainTree → Result (Plain × ℕ) PyError)
+    → Result (Plain × ℕ) PyError → Type 0
+OfCode words groups answer result =
+    UnlessOutOfMemory result ((SpellsNothing words groups × (result ≡ Err InvalidCode))
+    ⊎ ((t : PlainTree) × (Spells words groups t × (result ≡ answer t))))
 
 -- the same without the number
 abbrev pub sub : PlainPattern → Repl → Plain → ℕ → Option Plain → Result Plain PyError

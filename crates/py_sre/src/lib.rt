@@ -16,5 +16,5 @@ mod template;
 pub use flags::{CODESIZE, MAGIC, MAXGROUPS, MAXREPEAT, SreFlag, ascii_iscased, getcodesize};
 pub use names::{GroupIndex, GroupNames};
 pub use pattern::{Pattern, PatternRef, PatternSource, compile, pattern_ref};
-pub use substituting::Repl;
+pub use substituting::{Repl, substitute};
 pub use template::Template;

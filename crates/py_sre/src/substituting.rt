@@ -3,18 +3,20 @@
 ghost use Rattle.std.specs.Prelude.{◌≡◌, map, MatchResult};
 ghost use Rattle.py_value.specs.Asking.{Meets};
 ghost use Rattle.py_value.specs.ValueView.{plain_of, plainly};
+ghost use Rattle.py_sre.specs.Pattern.{is_over_bytes};
 ghost use Rattle.py_sre.specs.Pieces.{piece_of};
 ghost use Rattle.py_sre.specs.Substituting as spec;
-ghost use Rattle.py_sre.specs.Substituting.{counted, given};
+ghost use Rattle.py_sre.specs.Substituting.{OfCode, counted, given};
 ghost use Rattle.py_sre.specs.Template.{units_of};
 
 use crate::kind::Kind;
-use crate::pattern::Pattern;
+use crate::names::{GroupIndex, GroupNames};
+use crate::pattern::{Pattern, PatternSource, compile};
 use crate::pieces::Piece;
 use crate::template::{Pieces, Template};
 use py_base::{OptionalArg, PyResult, Steps};
 use py_text::{PyBytes, PyStr};
-use py_value::Value;
+use py_value::{Value, ValueList};
 use std::alloc::Global;
 use std::sync::ledger::Ledger;
 
@@ -49,11 +51,19 @@ impl Pattern {
         steps: &mut Steps<L>,
     ) -> PyResult<(Value, usize)>
         requires { K.is_bytes ≡ self.now.is_bytes }
-        ensures { Meets (spec.replaced_with self.now (map (piece_of K.units) pieces.now)
-            (K.units unset.now) (plain_of string.now) count) (counted result) }
+        ensures { Meets (spec.replaced_with self.now.is_bytes self.now.code.tree
+            (map (piece_of K.units) pieces.now) (K.units unset.now) (plain_of string.now) count) (counted result) }
     {
         let subject = of_kind::<K>(string)?;
-        let (made, count) = K::replaced(alloc, pieces, unset, subject, self.checked(), count, steps)?;
+        let (made, count) = K::replaced(
+            alloc,
+            pieces,
+            unset,
+            subject,
+            self.checked(),
+            count,
+            steps,
+        )?;
         Ok((made.into_value(), count))
     }
 
@@ -68,8 +78,8 @@ impl Pattern {
         steps: &mut Steps<L>,
     ) -> PyResult<(Value, usize)>
         requires { K.is_bytes ≡ self.now.is_bytes }
-        ensures { Meets (spec.replaced_by self.now (map (piece_of K.units) pieces.now)
-            (plain_of string.now) count (given default.entry)) (counted result) }
+        ensures { Meets (spec.replaced_by self.now.is_bytes self.now.code.tree
+            (map (piece_of K.units) pieces.now) (plain_of string.now) count (given default.entry)) (counted result) }
     {
         match default {
             OptionalArg::Present(value) => {
@@ -135,9 +145,13 @@ impl Pattern {
             },
             Repl::Literal(value) => {
                 if self.isbytes() {
-                    self.replaced_by_literal::<PyBytes, L>(alloc, value, string, count, default, steps)
+                    self.replaced_by_literal::<PyBytes, L>(
+                        alloc, value, string, count, default, steps,
+                    )
                 } else {
-                    self.replaced_by_literal::<PyStr, L>(alloc, value, string, count, default, steps)
+                    self.replaced_by_literal::<PyStr, L>(
+                        alloc, value, string, count, default, steps,
+                    )
                 }
             }
         }
@@ -164,4 +178,40 @@ impl Pattern {
         let (made, _) = self.subn(alloc, repl, string, count, default, steps)?;
         Ok(made)
     }
+}
+
+/// The text or the bytes with the first matches of a code replaced, as many as the limit, where 0 is
+/// all, by the template of a list; and how many they were. An unset group adds the default, or
+/// nothing where none is given.
+///
+/// # Errors
+///
+/// `InvalidCode` where the words are no code for so many groups; those of `Template::template`;
+/// then `ExpectedString` or `ExpectedBytes` by the pattern's kind, for the default and then for the
+/// subject.
+pub fn substitute<L: Ledger>(
+    alloc: Global,
+    pattern: PatternSource,
+    code: &[u32],
+    groups: usize,
+    list: &ValueList,
+    subject: &Value,
+    limit: usize,
+    default: OptionalArg<&Value>,
+    steps: &mut Steps<L>,
+) -> PyResult<(Value, usize)>
+    ensures { OfCode code.now groups (spec.substitute (is_over_bytes pattern) groups list.now
+        (plain_of subject.now) limit (given default.entry)) (counted result) }
+{
+    let (index, names) = (GroupIndex::new(alloc), GroupNames::new(alloc));
+    let made = compile(alloc, pattern, 0, code, groups, index, names)?;
+    let template = Template::template(alloc, &made, list)?;
+    made.subn(
+        alloc,
+        &Repl::Template(template),
+        subject,
+        limit,
+        default,
+        steps,
+    )
 }

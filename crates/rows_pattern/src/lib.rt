@@ -3,3 +3,5 @@
 
 #[cfg(test)]
 mod patterns;
+#[cfg(test)]
+mod substitution;
