@@ -51,15 +51,15 @@ fn with_names_in(
 fn with_names_in_either(
     alloc: Global,
     names: GroupNames,
-    met: &TextBody,
-    other: &Option<TextBody>,
+    yes: &TextBody,
+    no: &Option<TextBody>,
 ) -> Result<GroupNames, AllocError>
-    ensures { IfOk result (λ longer. longer ≡ names ++ names_in_either met.now other.now) }
+    ensures { IfOk result (λ longer. longer ≡ names ++ names_in_either yes.now no.now) }
 {
-    let longer = with_names(alloc, names, met.get())?;
-    match other {
+    let longer = with_names(alloc, names, yes.get())?;
+    match no {
         None => Ok(longer),
-        Some(other) => with_names(alloc, longer, other.get()),
+        Some(no) => with_names(alloc, longer, no.get()),
     }
 }
 

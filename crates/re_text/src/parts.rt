@@ -124,13 +124,13 @@ fn put_conditional(
     code: &mut CodeEnd,
     names: &GroupNames,
     number: usize,
-    met: &TextBody,
+    yes: &TextBody,
 ) -> Result<(), AllocError>
-    ensures { let node = plain.exists number (tree_of_text names.now met.now) in
+    ensures { let node = plain.exists number (tree_of_text names.now yes.now) in
         OnOk result (code.new ≡ node_words node ++ code.old) }
 {
     let before = code.len();
-    put_part(alloc, code, names, met.get())?;
+    put_part(alloc, code, names, yes.get())?;
     code.put_skip(before, 2)?;
     code.put_number(number.saturating_sub(1))?;
     code.put(GROUPREF_EXISTS)
@@ -143,13 +143,13 @@ fn put_other(
     alloc: Global,
     code: &mut CodeEnd,
     names: &GroupNames,
-    other: &TextBody,
+    no: &TextBody,
 ) -> Result<(), AllocError>
-    ensures { let no = words_of names.now other.now in
-        OnOk result (code.new ≡ jump ∷ (length no + 1) ∷ (no ++ code.old)) }
+    ensures { let words = words_of names.now no.now in
+        OnOk result (code.new ≡ jump ∷ (length words + 1) ∷ (words ++ code.old)) }
 {
     let before = code.len();
-    put_part(alloc, code, names, other.get())?;
+    put_part(alloc, code, names, no.get())?;
     code.put_skip(before, 1)?;
     code.put(JUMP)
 }
@@ -162,16 +162,16 @@ fn put_conditional_else(
     code: &mut CodeEnd,
     names: &GroupNames,
     number: usize,
-    met: &TextBody,
-    other: &TextBody,
+    yes: &TextBody,
+    no: &TextBody,
 ) -> Result<(), AllocError>
-    ensures { let yes = tree_of_text names.now met.now in
-        let node = plain.exists_else number yes (tree_of_text names.now other.now) in
+    ensures { let first = tree_of_text names.now yes.now in
+        let node = plain.exists_else number first (tree_of_text names.now no.now) in
         OnOk result (code.new ≡ node_words node ++ code.old) }
 {
-    put_other(alloc, code, names, other)?;
+    put_other(alloc, code, names, no)?;
     let before = code.len();
-    put_part(alloc, code, names, met.get())?;
+    put_part(alloc, code, names, yes.get())?;
     code.put_skip(before, 4)?;
     code.put_number(number.saturating_sub(1))?;
     code.put(GROUPREF_EXISTS)
@@ -184,15 +184,15 @@ fn put_either(
     code: &mut CodeEnd,
     names: &GroupNames,
     number: usize,
-    met: &TextBody,
-    other: &Option<TextBody>,
+    yes: &TextBody,
+    no: &Option<TextBody>,
 ) -> Result<(), AllocError>
-    ensures { let node = either number names.now met.now other.now in
+    ensures { let node = either number names.now yes.now no.now in
         OnOk result (code.new ≡ node_words node ++ code.old) }
 {
-    match other {
-        None => put_conditional(alloc, code, names, number, met),
-        Some(other) => put_conditional_else(alloc, code, names, number, met, other),
+    match no {
+        None => put_conditional(alloc, code, names, number, yes),
+        Some(no) => put_conditional_else(alloc, code, names, number, yes, no),
     }
 }
 

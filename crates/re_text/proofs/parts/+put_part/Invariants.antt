@@ -23,16 +23,16 @@ abbrev pub decreases-put_capture : goal.decreases-put_capture
 decreases-put_capture l = 4 * height l.body.now + 1
 
 abbrev pub decreases-put_conditional : goal.decreases-put_conditional
-decreases-put_conditional l = 4 * height l.met.now + 1
+decreases-put_conditional l = 4 * height l.yes.now + 1
 
 abbrev pub decreases-put_other : goal.decreases-put_other
-decreases-put_other l = 4 * height l.other.now + 1
+decreases-put_other l = 4 * height l.no.now + 1
 
 abbrev pub decreases-put_conditional_else : goal.decreases-put_conditional_else
-decreases-put_conditional_else l = 4 * max (height l.met.now) (height l.other.now) + 2
+decreases-put_conditional_else l = 4 * max (height l.yes.now) (height l.no.now) + 2
 
 abbrev pub decreases-put_either : goal.decreases-put_either
-decreases-put_either l = 4 * max (height l.met.now) (body_height l.other.now) + 3
+decreases-put_either l = 4 * max (height l.yes.now) (body_height l.no.now) + 3
 
 abbrev pub decreases-put_counted : goal.decreases-put_counted
 decreases-put_counted l = 4 * height l.body.now + 1
