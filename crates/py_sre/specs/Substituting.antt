@@ -1,12 +1,12 @@
 -- What the calls of a pattern that replace its spans answer.
-use Rattle.std.specs.Prelude.{◌≡◌, ◌⊎◌, ℕ, Bool, true, false, List, [], ◌∷◌, map, Option, Some, None, Result, Ok, Err}
+use Rattle.std.specs.Prelude.{◌≡◌, ◌⊎◌, ℕ, Bool, true, false, List, [], ◌∷◌, map, pos, Option, Some, None, Result, Ok, Err}
 use denote.Bor.{Bor}
 use Rattle.py_base.specs.declared.error.PyError.{PyError}
 use Rattle.py_base.specs.declared.error.PyError.TheVariants.{InvalidCode}
 use Rattle.py_base.specs.declared.error.type_names.OptionalArg.{OptionalArg}
 use Rattle.py_base.specs.declared.error.type_names.OptionalArg.TheVariants.{Present, Missing}
 use Rattle.py_value.specs.Asking.{UnlessOutOfMemory}
-use Rattle.py_value.specs.Plain.{Plain, Plains}
+use Rattle.py_value.specs.Plain.{Plain, Plains, int, tuple, empty, ◌then◌}
 use Rattle.py_value.specs.ValueView.{plain_of}
 use Rattle.py_value.specs.declared.value.Value.{Value}
 use Rattle.sre_code.specs.PlainTree.{PlainTree}
@@ -75,16 +75,53 @@ substitute is_bytes groups list subject count default t =
     template is_bytes groups list and_ok λ pieces.
     replaced_by is_bytes t pieces subject count default
 
+-- the same without the number
+abbrev pub sub : PlainPattern → Repl → Plain → ℕ → Option Plain → Result Plain PyError
+sub p repl subject count default = subn p repl subject count default and_ok λ made. Ok made.0
+
+-- a value and a number as a tuple
+abbrev pub pair : Plain × ℕ → Plain
+pair made = tuple (made.0 then int (pos made.1) then empty)
+
+abbrev pub paired : Result (Plain × ℕ) PyError → Result Plain PyError
+paired (Ok made) = Ok (pair made)
+paired (Err e) = Err e
+
+-- many subjects, each by itself
+abbrev pub each_replaced : Bool → PlainTree → List Piece → List ℕ → ℕ → Plains
+    → Result Plains PyError
+each_replaced is_bytes t pieces unset count empty = Ok empty
+each_replaced is_bytes t pieces unset count (v then vs) =
+    paired (replaced_with is_bytes t pieces unset v count) and_ok λ made.
+    each_replaced is_bytes t pieces unset count vs and_ok λ more.
+    Ok (made then more)
+
+abbrev pub all_replaced_by : Bool → PlainTree → List Piece → Plains → ℕ → Option Plain
+    → Result Plains PyError
+all_replaced_by is_bytes t pieces subjects count default =
+    unset_of is_bytes default and_ok λ unset. each_replaced is_bytes t pieces unset count subjects
+
+abbrev pub substitute_all : Bool → ℕ → Plains → Plains → ℕ → Option Plain → PlainTree
+    → Result Plains PyError
+substitute_all is_bytes groups list subjects count default t =
+    template is_bytes groups list and_ok λ pieces.
+    all_replaced_by is_bytes t pieces subjects count default
+
 -- what the tree that the words spell answers, or `InvalidCode` where they spell none
-abbrev pub OfCode : List ℕ → ℕ → (PlainTree → Result (Plain × ℕ) PyError)
-    → Result (Plain × ℕ) PyError → Type 0
+abbrev pub OfCode : {A : Type 0} → List ℕ → ℕ → (PlainTree → Result A PyError)
+    → Result A PyError → Type 0
 OfCode words groups answer result =
     UnlessOutOfMemory result ((SpellsNothing words groups × (result ≡ Err InvalidCode))
     ⊎ ((t : PlainTree) × (Spells words groups t × (result ≡ answer t))))
 
--- the same without the number
-abbrev pub sub : PlainPattern → Repl → Plain → ℕ → Option Plain → Result Plain PyError
-sub p repl subject count default = subn p repl subject count default and_ok λ made. Ok made.0
+-- values, and those that come after them
+abbrev pub appended : Plains → Plains → Plains
+appended empty ws = ws
+appended (v then vs) ws = v then appended vs ws
+
+abbrev pub followed : Plains → Result Plains PyError → Result Plains PyError
+followed vs (Ok ws) = Ok (appended vs ws)
+followed vs (Err e) = Err e
 
 -- what a call in memory answers
 abbrev pub counted : Result (Value × ℕ) PyError → Result (Plain × ℕ) PyError

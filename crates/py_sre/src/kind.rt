@@ -59,8 +59,10 @@ pub(crate) trait Kind: Drop {
         steps: &mut Steps<L>,
     ) -> PyResult<(Self, usize)>
         ensures ok { let asked = replacement_of units pieces.now unset.now in
-            IfOk result (λ x. units x.0 ≡ substituted code.now.tree (units subject.now) limit asked) }
-        ensures count { IfOk result (λ x. x.1 ≡ substitutions code.now.tree (units subject.now) limit) }
+            let made = substituted code.now.tree (units subject.now) limit asked in
+            IfOk result (λ x. units x.0 ≡ made) }
+        ensures count { let many = substitutions code.now.tree (units subject.now) limit in
+            IfOk result (λ x. x.1 ≡ many) }
         ensures err { IsOkUnless result NoMemory };
 }
 

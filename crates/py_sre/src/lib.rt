@@ -7,6 +7,7 @@ mod filling;
 mod flags;
 mod kind;
 mod names;
+mod of_words;
 mod pattern;
 mod pieces;
 mod subjects;
@@ -15,6 +16,7 @@ mod template;
 
 pub use flags::{CODESIZE, MAGIC, MAXGROUPS, MAXREPEAT, SreFlag, ascii_iscased, getcodesize};
 pub use names::{GroupIndex, GroupNames};
+pub use of_words::{substitute, substitute_all};
 pub use pattern::{Pattern, PatternRef, PatternSource, compile, pattern_ref};
-pub use substituting::{Repl, substitute};
+pub use substituting::Repl;
 pub use template::Template;

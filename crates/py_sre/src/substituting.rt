@@ -3,20 +3,18 @@
 ghost use Rattle.std.specs.Prelude.{◌≡◌, map, MatchResult};
 ghost use Rattle.py_value.specs.Asking.{Meets};
 ghost use Rattle.py_value.specs.ValueView.{plain_of, plainly};
-ghost use Rattle.py_sre.specs.Pattern.{is_over_bytes};
 ghost use Rattle.py_sre.specs.Pieces.{piece_of};
 ghost use Rattle.py_sre.specs.Substituting as spec;
-ghost use Rattle.py_sre.specs.Substituting.{OfCode, counted, given};
+ghost use Rattle.py_sre.specs.Substituting.{counted, given};
 ghost use Rattle.py_sre.specs.Template.{units_of};
 
 use crate::kind::Kind;
-use crate::names::{GroupIndex, GroupNames};
-use crate::pattern::{Pattern, PatternSource, compile};
+use crate::pattern::Pattern;
 use crate::pieces::Piece;
 use crate::template::{Pieces, Template};
 use py_base::{OptionalArg, PyResult, Steps};
 use py_text::{PyBytes, PyStr};
-use py_value::{Value, ValueList};
+use py_value::Value;
 use std::alloc::Global;
 use std::sync::ledger::Ledger;
 
@@ -27,8 +25,8 @@ pub enum Repl {
     Template(Template),
 }
 
-// What a value of the kind holds.
-fn of_kind<K: Kind>(value: &Value) -> PyResult<&K>
+/// What a value of the kind holds.
+pub(crate) fn of_kind<K: Kind>(value: &Value) -> PyResult<&K>
     ensures { MatchResult result
         (λ found. units_of K.is_bytes (plain_of value.now) ≡ Ok (K.units found.now))
         (λ e. units_of K.is_bytes (plain_of value.now) ≡ Err e) }
@@ -40,8 +38,9 @@ fn of_kind<K: Kind>(value: &Value) -> PyResult<&K>
 }
 
 impl Pattern {
-    // The subject with its first spans replaced by pieces; an unset group adds the units of `unset`.
-    fn replaced_with<K: Kind, L: Ledger>(
+    /// The subject with its first spans replaced by pieces; an unset group adds the units of
+    /// `unset`.
+    pub(crate) fn replaced_with<K: Kind, L: Ledger>(
         &self,
         alloc: Global,
         pieces: &[Piece<K>],
@@ -52,7 +51,8 @@ impl Pattern {
     ) -> PyResult<(Value, usize)>
         requires { K.is_bytes ≡ self.now.is_bytes }
         ensures { Meets (spec.replaced_with self.now.is_bytes self.now.code.tree
-            (map (piece_of K.units) pieces.now) (K.units unset.now) (plain_of string.now) count) (counted result) }
+            (map (piece_of K.units) pieces.now) (K.units unset.now) (plain_of string.now) count)
+            (counted result) }
     {
         let subject = of_kind::<K>(string)?;
         let (made, count) = K::replaced(
@@ -79,7 +79,8 @@ impl Pattern {
     ) -> PyResult<(Value, usize)>
         requires { K.is_bytes ≡ self.now.is_bytes }
         ensures { Meets (spec.replaced_by self.now.is_bytes self.now.code.tree
-            (map (piece_of K.units) pieces.now) (plain_of string.now) count (given default.entry)) (counted result) }
+            (map (piece_of K.units) pieces.now) (plain_of string.now) count (given default.entry))
+            (counted result) }
     {
         match default {
             OptionalArg::Present(value) => {
@@ -131,7 +132,8 @@ impl Pattern {
         steps: &mut Steps<L>,
     ) -> PyResult<(Value, usize)>
         requires { spec.OfKind self.now.is_bytes repl.now }
-        ensures { Meets (spec.subn self.now repl.now (plain_of string.now) count (given default.entry))
+        ensures { Meets
+            (spec.subn self.now repl.now (plain_of string.now) count (given default.entry))
             (counted result) }
     {
         match repl {
@@ -172,46 +174,11 @@ impl Pattern {
         steps: &mut Steps<L>,
     ) -> PyResult<Value>
         requires { spec.OfKind self.now.is_bytes repl.now }
-        ensures { Meets (spec.sub self.now repl.now (plain_of string.now) count (given default.entry))
+        ensures { Meets
+            (spec.sub self.now repl.now (plain_of string.now) count (given default.entry))
             (plainly result) }
     {
         let (made, _) = self.subn(alloc, repl, string, count, default, steps)?;
         Ok(made)
     }
-}
-
-/// The text or the bytes with the first matches of a code replaced, as many as the limit, where 0 is
-/// all, by the template of a list; and how many they were. An unset group adds the default, or
-/// nothing where none is given.
-///
-/// # Errors
-///
-/// `InvalidCode` where the words are no code for so many groups; those of `Template::template`;
-/// then `ExpectedString` or `ExpectedBytes` by the pattern's kind, for the default and then for the
-/// subject.
-pub fn substitute<L: Ledger>(
-    alloc: Global,
-    pattern: PatternSource,
-    code: &[u32],
-    groups: usize,
-    list: &ValueList,
-    subject: &Value,
-    limit: usize,
-    default: OptionalArg<&Value>,
-    steps: &mut Steps<L>,
-) -> PyResult<(Value, usize)>
-    ensures { OfCode code.now groups (spec.substitute (is_over_bytes pattern) groups list.now
-        (plain_of subject.now) limit (given default.entry)) (counted result) }
-{
-    let (index, names) = (GroupIndex::new(alloc), GroupNames::new(alloc));
-    let made = compile(alloc, pattern, 0, code, groups, index, names)?;
-    let template = Template::template(alloc, &made, list)?;
-    made.subn(
-        alloc,
-        &Repl::Template(template),
-        subject,
-        limit,
-        default,
-        steps,
-    )
 }

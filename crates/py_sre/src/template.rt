@@ -99,8 +99,8 @@ fn pieces_from<K: Kind>(alloc: Global, groups: usize, list: &ValueList) -> PyRes
 }
 
 impl Template {
-    /// The template of a list: literals of the pattern's kind, and between two of them the number of
-    /// a group of the pattern, or 0 for the whole match. True counts as 1.
+    /// The template of a list: literals of the pattern's kind, and between two of them the number
+    /// of a group of the pattern, or 0 for the whole match. True counts as 1.
     ///
     /// # Errors
     ///
