@@ -1,5 +1,5 @@
 #!/usr/bin/env python3
-"""Times calls on texts and integers of the program `bench_driver` beside the same calls of CPython.
+"""Times calls on texts, integers and pools of the program `bench_driver` beside the same calls of CPython.
 
     python3 bench/calls.py [CASE ..] [--sizes N ..] [--seconds S | --calls N] [--runs N] [--program PATH]
     python3 bench/calls.py --instructions [CASE ..] [--sizes N ..] [--jobs N] [--program PATH]
@@ -7,7 +7,7 @@
 Build the program first: `cd crates/bench_driver && rt run -- modpow 0 1000`.
 
 Each case is one call, made so often that ours take about S seconds of processor time (0.3). From that the
-time of the same process with no call is taken off: its start, and making the text. CPython makes the same
+time of the same process with no call is taken off: its start, and making the text or the pool. CPython makes the same
 calls as often, on the same texts and integers. At least five calls are made, of both. Both times are those of the whole loop, which adds what the
 calls give to a sum, and both sums have to be the same. Of a few runs the shortest counts.
 
@@ -57,7 +57,8 @@ WORDS = {
 TEXT_CALLS = ("find", "count", "startswith", "order", "equality", "replace", "split", "slice", "stepped", "join",
               "iterate", "strip", "center", "zfill", "expandtabs", "repr", "encode", "isalpha")
 NUMBER_CALLS = ("modpow", "divmod", "literal", "repr")
-CASES = (*(f"{call}_{language}" for call in TEXT_CALLS for language in WORDS), *NUMBER_CALLS)
+POOL_SIZES = {"intern": 100_000, "interned": 100_000, "intern_new": 1_000_000}  # how many identifiers a pool has
+CASES = (*(f"{call}_{language}" for call in TEXT_CALLS for language in WORDS), *NUMBER_CALLS, *POOL_SIZES)
 FEWEST = 5  # calls of a run
 
 # A base, a dividend and an integer to be written, each one more at each call.
@@ -67,6 +68,7 @@ COUNTED = 8  # calls that are counted in instructions
 EXPONENT = 98765432109876543210987654321
 MODULUS = 2**127 - 1
 DIVISOR = 1234567890123456789
+STRIDE = 7919  # places from the identifier of a call to that of the next one
 LITERALS = [str(FIRST)[:-1] + str(digit) for digit in range(10)]
 
 
@@ -268,10 +270,54 @@ def sum_of_lengths(times):
     return total
 
 
+def identifiers(size):
+    return [f"name_{number}" for number in range(size)]
+
+
+def pool_calls(case, size):
+    """A function that makes so many calls on a pool, and gives the sum. The texts equal those of the pool, and are
+    others."""
+    if case == "intern_new":
+        return lambda times: sum_of_new(size, times)
+    names, known = identifiers(size), identifiers(size)
+    if case == "intern":
+        pool = [sys.intern(name) for name in known]
+        return lambda times: sum_of_kept(pool, names, times)
+    places = {name: place for place, name in enumerate(known)}
+    return lambda times: sum_of_found(places, names, times)
+
+
+def sum_of_kept(pool, names, times):
+    """Python forgets an interned text that nothing else has, so the pool is a list of them."""
+    total = 0
+    for i in range(times if pool else 0):
+        total += len(sys.intern(names[i * STRIDE % len(names)]))
+    return total
+
+
+def sum_of_found(places, names, times):
+    total = 0
+    for i in range(times if names else 0):
+        total += places[names[i * STRIDE % len(names)]]
+    return total
+
+
+def sum_of_new(size, times):
+    total = 0
+    for _ in range(times):
+        places = {}
+        for number in range(size):
+            places.setdefault(f"name_{number}", number)
+        total += len(places)
+    return total
+
+
 def cpython(case, size):
     """A function that makes so many calls of the case in CPython, and gives the sum."""
     numbers = dict(zip(NUMBER_CALLS, (sum_of_powers, sum_of_quotients, sum_of_literals, sum_of_lengths)))
-    return numbers[case] if case in numbers else text_calls(*case.split("_"), size)
+    if case in numbers:
+        return numbers[case]
+    return pool_calls(case, size) if case in POOL_SIZES else text_calls(*case.split("_"), size)
 
 
 def run_ours(program, case, size, times):
@@ -364,7 +410,13 @@ def print_instructions(asked):
 
 
 def sizes_of(asked, case):
-    return [0] if case in NUMBER_CALLS else asked.sizes
+    if case in NUMBER_CALLS:
+        return [0]
+    if asked.sizes is not None:
+        return asked.sizes
+    if asked.instructions:
+        return [1_000]
+    return [POOL_SIZES[case]] if case in POOL_SIZES else [1_000, 10_000_000]
 
 
 def main(words=None):
@@ -372,7 +424,8 @@ def main(words=None):
     parser = argparse.ArgumentParser(prog="calls.py", description=__doc__, formatter_class=raw)
     parser.add_argument("cases", nargs="*", metavar="CASE", help=f"of {', '.join(CASES)} (all)")
     parser.add_argument("--sizes", type=int, nargs="+", metavar="N",
-                        help="of the texts, in characters (1000 10000000; 1000 for instructions)")
+                        help="of the texts, in characters (1000 10000000), and of the pools, in texts (100000; "
+                        "1000000 new ones); 1000 for instructions")
     parser.add_argument("--seconds", type=float, default=0.3, metavar="S", help="that a run takes about (0.3)")
     parser.add_argument("--calls", type=int, metavar="N", help="that a run makes, in place of --seconds")
     parser.add_argument("--runs", type=int, default=3, metavar="N", help="of which the shortest time counts (3)")
@@ -380,8 +433,6 @@ def main(words=None):
     parser.add_argument("--jobs", type=int, default=os.cpu_count(), metavar="N", help="of --instructions, side by side")
     parser.add_argument("--program", default=str(PROGRAM), metavar="PATH", help="the built program")
     asked = parser.parse_args(words)
-    if asked.sizes is None:
-        asked.sizes = [1_000] if asked.instructions else [1_000, 10_000_000]
     for case in asked.cases:
         if case not in CASES:
             parser.error(f"no such case: {case}")

@@ -35,11 +35,11 @@ class Texts(unittest.TestCase):
 
 @needs_program
 class Runs(unittest.TestCase):
-    def test_all_sums_agree_on_small_texts_and_on_numbers(self):
+    def test_all_sums_agree_on_small_texts_on_numbers_and_on_small_pools(self):
         for sizes in (["0", "3"], ["120", "1000"]):
             status, table = run("--sizes", *sizes)
             self.assertEqual(status, 0, table)
-            self.assertEqual(len(table.splitlines()), 1 + 36 * 2 + 4)
+            self.assertEqual(len(table.splitlines()), 1 + 36 * 2 + 4 + 3 * 2)
 
     def test_words_that_are_no_request_are_refused(self):
         for words in ([], ["modpow"], ["find", "1", "1"], ["find_ascii", "-1", "1"], ["repr", "0", "1", "2"],

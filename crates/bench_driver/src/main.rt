@@ -1,4 +1,4 @@
-//! Makes one call on a text or on integers over and over, and prints how often and a check sum.
+//! Makes one call on a text, integers or a pool over and over, and prints how often and a check sum.
 #![tactic(auto)]
 
 use std::io;

@@ -1,12 +1,12 @@
-//! Sums of calls on small texts and on integers, and words that are no request.
+//! Sums of calls on small texts, on integers and on small pools, and words that are no request.
 
 use py_base::PyResult;
 use std::alloc::Global;
 use std::test::Fail;
 use timed_calls::{Language, Request, text_of, text_with_end};
 
-// Three calls of each kind on texts of 300 code points, with the sums that CPython gives.
-const SUMS: [(&str, i128); 40] = [
+// Three calls of each kind on texts of 300 code points or pools of 300 texts, with the sums that CPython gives.
+const SUMS: [(&str, i128); 43] = [
     ("find_ascii", 879),
     ("find_french", 876),
     ("count_ascii", 9),
@@ -47,6 +47,9 @@ const SUMS: [(&str, i128); 40] = [
     ("divmod", 113918),
     ("literal", 186837),
     ("repr", 114),
+    ("intern", 22),
+    ("interned", 357),
+    ("intern_new", 900),
 ];
 
 // The sum of so many calls, or none where the name is no call.

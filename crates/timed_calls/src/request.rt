@@ -1,21 +1,23 @@
-//! What the command line asks for: a call, the size of its text, and how often it is made.
+//! What the command line asks for: a call, the size of its text or pool, and how often it is made.
 
 use crate::more_texts::MoreCall;
 use crate::numbers::NumberCall;
+use crate::pools::PoolCall;
 use crate::sample_texts::Language;
 use crate::searches::SearchCall;
 use crate::texts::TextCall;
-use crate::{more_texts, numbers, searches, texts};
+use crate::{more_texts, numbers, pools, searches, texts};
 use py_base::PyResult;
 use std::alloc::Global;
 
-/// A call on a text in a language, or on integers.
+/// A call on a text in a language, on integers, or on a pool.
 #[derive(Clone, Copy, Debug, PartialEq, Eq)]
 pub enum Call {
     Search(SearchCall, Language),
     OnText(TextCall, Language),
     More(MoreCall, Language),
     OnNumbers(NumberCall),
+    OnPool(PoolCall),
 }
 
 impl Call {
@@ -23,6 +25,9 @@ impl Call {
     fn of_name(name: &str) -> Option<Call> {
         if let Some(call) = NumberCall::of_name(name) {
             return Some(Call::OnNumbers(call));
+        }
+        if let Some(call) = PoolCall::of_name(name) {
+            return Some(Call::OnPool(call));
         }
         let (call, language) = name.split_once('_')?;
         Call::on_text(call, Language::of_name(language)?)
@@ -40,8 +45,8 @@ impl Call {
     }
 }
 
-/// A call, how many code points its text has (a call on integers has none), and how often it is
-/// made.
+/// A call, how many code points its text has or how many texts its pool (a call on integers has
+/// neither), and how often it is made.
 #[derive(Clone, Copy, Debug, PartialEq, Eq)]
 pub struct Request {
     pub call: Call,
@@ -67,6 +72,7 @@ impl Request {
             Call::OnText(call, language) => texts::sum(alloc, call, language, size, times),
             Call::More(call, language) => more_texts::sum(alloc, call, language, size, times),
             Call::OnNumbers(call) => numbers::sum(alloc, call, times),
+            Call::OnPool(call) => pools::sum(alloc, call, size, times),
         }
     }
 }
