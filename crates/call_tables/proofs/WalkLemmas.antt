@@ -1,9 +1,8 @@
--- What the loop over the steps of an iterator keeps.
+-- What loops over tokens keep.
 use Rattle.std.proofs.Common.{◌++◌, List, Result, Ok, Err}
 use Rattle.call_tables.specs.declared.fault.Fault.{Fault}
-use Rattle.call_tables.specs.declared.token.Token.{Token}
 
 -- what was given so far, and then the rest
-abbrev pub after_given : List Token → Result (List Token) Fault → Result (List Token) Fault
+abbrev pub after_given : {A : Type 0} → List A → Result (List A) Fault → Result (List A) Fault
 after_given given (Ok ts) = Ok (given ++ ts)
 after_given given (Err e) = Err e

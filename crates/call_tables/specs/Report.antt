@@ -60,3 +60,15 @@ tell_agreeing name told = add_line true (in_call name told)
 abbrev pub tell_differing : List ℕ → List ℕ → List ℕ → Told → Told
 tell_differing name line given told =
     and_text (codes "  differs: " ++ line ++ codes "\n    gives" ++ given ++ codes "\n") (add_line false (in_call name told))
+
+-- how many of how many
+abbrev pub counts_text : List ℕ → List ℕ → List ℕ
+counts_text agreeing calls = agreeing ++ (codes " of " ++ (calls ++ codes " calls agree\n"))
+
+-- the counts of all
+abbrev pub counts_of_all : Tally → List ℕ
+counts_of_all all = counts_text (decimal all.agreeing) (decimal all.calls)
+
+-- the end, after the last line of a call
+abbrev pub tell_all : Told → Told
+tell_all told = and_text (counts_of_all told.all) (next_call [] told)

@@ -1,6 +1,8 @@
 -- What a call gives, in tokens and as a table writes it.
-use Rattle.std.specs.Prelude.{List, [], ◌∷◌, ℕ, pos, ◌++◌, Bool, true, false, codes, encode_utf8_all, map, length, Result, Ok, Err}
+use Rattle.std.specs.Prelude.{List, [], ◌∷◌, ℕ, pos, ◌++◌, Bool, true, false, if◌then◌else◌, codes, encode_utf8_all, map, length, Option, Some, None, Result, Ok, Err}
+use Rattle.std.specs.Str.{bytes_eq}
 use Rattle.py_base.specs.declared.error.PyError.{PyError}
+use Rattle.py_base.specs.declared.error.PyError.TheVariants as error
 use Rattle.py_base.specs.Error.Names.{error_name}
 use Rattle.py_base.specs.Reading.{MeetsUnless}
 use Rattle.py_text.specs.Text.{all_ascii}
@@ -37,6 +39,42 @@ told f (Err e) = Err (Error e)
 -- what is told, unless memory ran out
 abbrev pub Tells : Result (List Token) Fault → Result (List Token) Fault → Type 0
 Tells want result = MeetsUnless no_memory want result
+
+-- memory ran out, in the call or outside of it
+abbrev pub out_of_memory : Fault → Bool
+out_of_memory NoMemory = true
+out_of_memory (Error error.NoMemory) = true
+out_of_memory _ = false
+
+-- what is wanted, unless memory ran out
+abbrev pub Answers : Result (List Token) Fault → Result (List Token) Fault → Type 0
+Answers want result = MeetsUnless out_of_memory want result
+
+-- what a table has under a name, or that there is no such call
+abbrev pub by_name : List ℕ → List (List ℕ × Result (List Token) Fault) → Result (List Token) Fault
+by_name name [] = Err NoCall
+by_name name (x ∷ table) = if bytes_eq name x.0 then x.1 else by_name name table
+
+-- what a list has under a name
+abbrev pub under : {A : Type 0} → List ℕ → List (List ℕ × A) → Option A
+under name [] = None
+under name (x ∷ table) = if bytes_eq name x.0 then Some x.1 else under name table
+
+-- what is wanted, if it is named, unless memory ran out
+abbrev pub AnswersIf : Option (Result (List Token) Fault) → Result (List Token) Fault → Type 0
+AnswersIf None result = Unit {0}
+AnswersIf (Some want) result = Answers want result
+
+-- the same after what was read, if it was
+abbrev pub read_with : {A : Type 0} → Result A Fault → (A → Option (Result (List Token) Fault)) → Option (Result (List Token) Fault)
+read_with (Ok a) f = f a
+read_with (Err e) f = Some (Err e)
+
+-- goes on with what was read, if it was
+infixl 15 ◌and_with◌
+abbrev pub ◌and_with◌ : {A B : Type 0} → Result A Fault → (A → Result B Fault) → Result B Fault
+(Ok a) and_with f = f a
+(Err e) and_with f = Err e
 
 abbrev pub one : Token → List Token
 one token = token ∷ []

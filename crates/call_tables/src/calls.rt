@@ -9,6 +9,7 @@ pub mod values;
 mod walks;
 
 ghost use Rattle.std.specs.Prelude.{◌≡◌, ◌↔◌, ◌^◌, ◌-◌, ◌≤ℤ◌, negsuc, pos, IfOk, IsOk, IsOkUnless};
+ghost use Rattle.call_tables.specs.Calls.Arguments.{optional_of, order_number, flag_of, size_of};
 ghost use Rattle.call_tables.specs.declared.fault.Fault.TheVariants.{BadArguments};
 
 use crate::fault::Fault;
@@ -17,7 +18,9 @@ use py_int::PyInt;
 use std::cmp::Ordering;
 
 // A number, or none.
-fn optional(token: &Token) -> Result<Option<i128>, Fault> {
+fn optional(token: &Token) -> Result<Option<i128>, Fault>
+    ensures { result ≡ optional_of token.now }
+{
     match token {
         Token::Int(number) => Ok(Some(*number)),
         Token::Missing => Ok(None),
@@ -26,7 +29,9 @@ fn optional(token: &Token) -> Result<Option<i128>, Fault> {
 }
 
 // An integer, or none.
-fn optional_int(token: &Token) -> Result<Option<PyInt>, Fault> {
+fn optional_int(token: &Token) -> Result<Option<PyInt>, Fault>
+    ensures { result ≡ optional_of token.now }
+{
     match token {
         Token::Int(number) => Ok(Some(PyInt::from(*number))),
         Token::Missing => Ok(None),
@@ -35,7 +40,9 @@ fn optional_int(token: &Token) -> Result<Option<PyInt>, Fault> {
 }
 
 // A number that is a place or a length.
-fn size(number: i128) -> Result<usize, Fault> {
+fn size(number: i128) -> Result<usize, Fault>
+    ensures { result ≡ size_of number }
+{
     usize::try_from(number).map_err(|_| Fault::BadArguments)
 }
 
@@ -49,7 +56,9 @@ pub fn signed(number: i128) -> Result<isize, Fault>
 }
 
 // -1, 0 or 1.
-fn order_number(order: Ordering) -> i128 {
+fn order_number(order: Ordering) -> i128
+    ensures { result ≡ order_number order }
+{
     match order {
         Ordering::Less => -1,
         Ordering::Equal => 0,
@@ -57,7 +66,10 @@ fn order_number(order: Ordering) -> i128 {
     }
 }
 
-fn flag(number: i128) -> Result<bool, Fault> {
+// A bool.
+fn flag(number: i128) -> Result<bool, Fault>
+    ensures { result ≡ flag_of number }
+{
     match number {
         0 => Ok(false),
         1 => Ok(true),

@@ -1,9 +1,9 @@
 //! The report on calls: how many agree with CPython, by call, and each that does not.
 
-ghost use Rattle.std.specs.Prelude.{◌≡◌, ◌<◌, ◌↔◌, IsTrue, OnOk};
+ghost use Rattle.std.specs.Prelude.{◌≡◌, ◌<◌, ◌↔◌, ◌++◌, IsTrue, OnOk, string_bytes};
 ghost use Rattle.std.specs.Process.{exit_status};
 ghost use Rattle.py_base.specs.Counts.{one_more};
-ghost use Rattle.call_tables.specs.Report.{nothing_told, add_call, next_call, in_call, begin_file, tell_agreeing, tell_differing};
+ghost use Rattle.call_tables.specs.Report.{nothing_told, add_call, next_call, in_call, begin_file, tell_agreeing, tell_differing, counts_of_all, tell_all};
 
 use std::alloc::{AllocError, Global};
 use std::marker::Model;
@@ -31,6 +31,14 @@ impl Tally {
             self.agreeing = self.agreeing.saturating_add(1);
         }
     }
+}
+
+// Writes the counts of all.
+fn write_counts(text: &mut String, all: Tally) -> Result<(), AllocError>
+    ensures { OnOk result (string_bytes text.new ≡ string_bytes text.old ++ counts_of_all all) }
+{
+    let Tally { calls, agreeing } = all;
+    write!(text, "{agreeing} of {calls} calls agree\n")
 }
 
 /// The text of a report, the counts of the call whose lines are being read, and those of all.
@@ -134,11 +142,11 @@ impl Report {
 
     /// Writes the counts of all.
     pub fn end(&mut self) -> Result<(), AllocError>
-        ensures { self.new.all ≡ self.old.all }
+        ensures told { OnOk result (self.new ≡ tell_all self.old) }
+        ensures counts { self.new.all ≡ self.old.all }
     {
-        let Tally { calls, agreeing } = self.all;
         self.turn_to("")?;
-        write!(self.text, "{agreeing} of {calls} calls agree\n")
+        write_counts(&mut self.text, self.all)
     }
 
     /// The text of the report.

@@ -39,7 +39,9 @@ pub enum Table {
 }
 
 impl Calls for Table {
-    ghost may_give = { λ _ _ _ _. Unit {0} };
+    ghost use Rattle.call_tables.specs.Calls.Tables.{may_give as of_table};
+
+    ghost may_give = { of_table };
 
     fn answer(&self, alloc: Global, name: &str, arguments: &[Token]) -> Outcome {
         match self {

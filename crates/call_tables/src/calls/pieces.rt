@@ -1,5 +1,11 @@
 //! Calls that cut a text, join texts, or replace parts.
 
+ghost use Rattle.std.specs.Prelude.{◌≡◌, ◌∷◌, chars, IfOk, Ok};
+ghost use Rattle.std.specs.Vec.{vec_items};
+ghost use Rattle.py_base.specs.Reading.{MeetsUnless};
+ghost use Rattle.call_tables.specs.Calls.Pieces.{with_part, in_lines, separator_of, in_pieces, texts_of, joined, with_new, pieces_answer};
+ghost use Rattle.call_tables.specs.Results.{Answers, items_of, out_of_memory};
+
 use super::{flag, optional, signed};
 use crate::fault::Fault;
 use crate::results::{Outcome, copy_of, parts, text, texts};
@@ -8,7 +14,9 @@ use py_text::{PyStr, SplitArgs, TextList};
 use std::alloc::Global;
 
 /// A call of the table `pieces`.
-pub fn answer(alloc: Global, name: &str, arguments: &[Token]) -> Outcome {
+pub fn answer(alloc: Global, name: &str, arguments: &[Token]) -> Outcome
+    ensures { Answers (pieces_answer name.now arguments.now) (items_of vec_items result) }
+{
     match arguments {
         [Token::Text(subject), Token::Text(part)] => with_part(alloc, name, subject, part),
         [Token::Text(subject), Token::Int(keepends)] => lines(alloc, name, subject, *keepends),
@@ -30,7 +38,9 @@ pub fn answer(alloc: Global, name: &str, arguments: &[Token]) -> Outcome {
     }
 }
 
-fn with_part(alloc: Global, name: &str, subject: &PyStr, part: &PyStr) -> Outcome {
+fn with_part(alloc: Global, name: &str, subject: &PyStr, part: &PyStr) -> Outcome
+    ensures { Answers (with_part name.now subject.now part.now) (items_of vec_items result) }
+{
     match name {
         "removeprefix" => text(alloc, PyStr::copy_of(alloc, subject.removeprefix(part))),
         "removesuffix" => text(alloc, PyStr::copy_of(alloc, subject.removesuffix(part))),
@@ -40,7 +50,9 @@ fn with_part(alloc: Global, name: &str, subject: &PyStr, part: &PyStr) -> Outcom
     }
 }
 
-fn lines(alloc: Global, name: &str, subject: &PyStr, keepends: i128) -> Outcome {
+fn lines(alloc: Global, name: &str, subject: &PyStr, keepends: i128) -> Outcome
+    ensures { Answers (in_lines name.now subject.now keepends) (items_of vec_items result) }
+{
     let keepends = flag(keepends)?;
     match name {
         "splitlines" => texts(alloc, subject.splitlines(alloc, keepends)),
@@ -49,7 +61,9 @@ fn lines(alloc: Global, name: &str, subject: &PyStr, keepends: i128) -> Outcome 
 }
 
 // A separator, or none.
-fn separator(alloc: Global, token: &Token) -> Result<Option<PyStr>, Fault> {
+fn separator(alloc: Global, token: &Token) -> Result<Option<PyStr>, Fault>
+    ensures { MeetsUnless out_of_memory (separator_of token.now) result }
+{
     match token {
         Token::Text(sep) => Ok(Some(copy_of(alloc, sep)?)),
         Token::Missing => Ok(None),
@@ -57,7 +71,9 @@ fn separator(alloc: Global, token: &Token) -> Result<Option<PyStr>, Fault> {
     }
 }
 
-fn split(alloc: Global, name: &str, subject: &PyStr, args: &SplitArgs) -> Outcome {
+fn split(alloc: Global, name: &str, subject: &PyStr, args: &SplitArgs) -> Outcome
+    ensures { Answers (in_pieces name.now subject.now args.now) (items_of vec_items result) }
+{
     match name {
         "split" => texts(alloc, subject.split(alloc, args)),
         "rsplit" => texts(alloc, subject.rsplit(alloc, args)),
@@ -65,7 +81,9 @@ fn split(alloc: Global, name: &str, subject: &PyStr, args: &SplitArgs) -> Outcom
     }
 }
 
-fn join(alloc: Global, name: &str, between: &PyStr, items: &[Token]) -> Outcome {
+fn join(alloc: Global, name: &str, between: &PyStr, items: &[Token]) -> Outcome
+    ensures { Answers (joined name.now between.now items.now) (items_of vec_items result) }
+{
     let list = list_of(alloc, items)?;
     match name {
         "join" => text(alloc, between.join(alloc, &list)),
@@ -73,7 +91,9 @@ fn join(alloc: Global, name: &str, between: &PyStr, items: &[Token]) -> Outcome 
     }
 }
 
-fn list_of(alloc: Global, items: &[Token]) -> Result<TextList, Fault> {
+fn list_of(alloc: Global, items: &[Token]) -> Result<TextList, Fault>
+    ensures { MeetsUnless out_of_memory (texts_of items.now) result }
+{
     let mut list = TextList::new(alloc);
     for item in items {
         match item {
@@ -89,9 +109,13 @@ fn replace(
     alloc: Global,
     name: &str,
     subject: &PyStr,
-    (old, new): (&PyStr, &PyStr),
+    parts: (&PyStr, &PyStr),
     count: &Token,
-) -> Outcome {
+) -> Outcome
+    ensures { Answers (with_new name.now subject.now (parts.entry.0.now, parts.entry.1.now) count.now)
+        (items_of vec_items result) }
+{
+    let (old, new) = parts;
     let count = match optional(count)? {
         Some(count) => Some(signed(count)?),
         None => None,

@@ -1,6 +1,11 @@
 //! Calls that take a part of a text, add, repeat, or go through one.
 
-ghost use Rattle.std.specs.Prelude.{◌≤◌, length, IfOk};
+ghost use Rattle.std.specs.Prelude.{◌≡◌, ◌≤◌, ◌++◌, length, slice_get, slice_range, ok_or, IfOk, IfErr, IsOkUnless, Ok, Err};
+ghost use Rattle.std.specs.Vec.{vec_items};
+ghost use Rattle.py_base.specs.declared.error.PyError.TheVariants.{NoMemory, IndexOutOfRange};
+ghost use Rattle.py_text.specs.Subscript.{item_of};
+ghost use Rattle.call_tables.specs.Calls.Slices.{of_two, letter_there, with_number, range_of, by_range, stepped, by_step, by_optional, in_brackets, number_there, in_steps, iterated, slices_answer};
+ghost use Rattle.call_tables.specs.Results.{Answers, items_of};
 
 use super::walks::{reduced, walked};
 use super::{optional, signed, size};
@@ -13,7 +18,9 @@ use std::alloc::Global;
 use std::ops::Range;
 
 /// A call of the table `slices`.
-pub fn answer(alloc: Global, name: &str, arguments: &[Token]) -> Outcome {
+pub fn answer(alloc: Global, name: &str, arguments: &[Token]) -> Outcome
+    ensures { Answers (slices_answer name.now arguments.now) (items_of vec_items result) }
+{
     match arguments {
         [Token::Text(one), Token::Text(other)] => of_two(alloc, name, one, other),
         [Token::Text(subject), Token::Int(number)] => with_number(alloc, name, subject, *number),
@@ -31,7 +38,9 @@ pub fn answer(alloc: Global, name: &str, arguments: &[Token]) -> Outcome {
     }
 }
 
-fn of_two(alloc: Global, name: &str, one: &PyStr, other: &PyStr) -> Outcome {
+fn of_two(alloc: Global, name: &str, one: &PyStr, other: &PyStr) -> Outcome
+    ensures { Answers (of_two name.now one.now other.now) (items_of vec_items result) }
+{
     match name {
         "add" => text(alloc, one.add(alloc, other)),
         "append" => text(alloc, appended(alloc, one, other)),
@@ -41,20 +50,28 @@ fn of_two(alloc: Global, name: &str, one: &PyStr, other: &PyStr) -> Outcome {
 }
 
 // A text that more was appended to.
-fn appended(alloc: Global, one: &PyStr, other: &PyStr) -> PyResult<PyStr> {
+fn appended(alloc: Global, one: &PyStr, other: &PyStr) -> PyResult<PyStr>
+    ensures ok { IfOk result (λ made. made ≡ one.now ++ other.now) }
+    ensures err { IsOkUnless result NoMemory }
+{
     let mut made = one.try_clone(alloc)?;
     made.append(other.as_str())?;
     Ok(made)
 }
 
 // A shared text that more was added to, in place.
-fn extended(alloc: Global, one: &PyStr, other: &PyStr) -> PyResult<PyStr> {
+fn extended(alloc: Global, one: &PyStr, other: &PyStr) -> PyResult<PyStr>
+    ensures ok { IfOk result (λ made. made ≡ one.now ++ other.now) }
+    ensures err { IsOkUnless result NoMemory }
+{
     let mut shared = PyStr::new_ref(alloc, one.try_clone(alloc)?)?;
     shared.concat_in_place(alloc, other.as_str())?;
     shared.as_pystr().try_clone(alloc)
 }
 
-fn with_number(alloc: Global, name: &str, subject: &PyStr, number: i128) -> Outcome {
+fn with_number(alloc: Global, name: &str, subject: &PyStr, number: i128) -> Outcome
+    ensures { Answers (with_number name.now subject.now number) (items_of vec_items result) }
+{
     match name {
         "mul" => text(alloc, subject.mul(alloc, signed(number)?)),
         "getitem_by_index" => text(alloc, letter_at(alloc, subject, number)),
@@ -65,7 +82,9 @@ fn with_number(alloc: Global, name: &str, subject: &PyStr, number: i128) -> Outc
 }
 
 // The character at an index that lies in the text.
-fn do_get(alloc: Global, subject: &PyStr, index: usize) -> Outcome {
+fn do_get(alloc: Global, subject: &PyStr, index: usize) -> Outcome
+    ensures { Answers (letter_there (slice_get subject.now index)) (items_of vec_items result) }
+{
     if index >= subject.char_len() {
         return Err(Fault::BadArguments);
     }
@@ -78,7 +97,10 @@ fn letter_at(alloc: Global, subject: &PyStr, index: i128) -> PyResult<PyStr> {
 
 // A range that lies in the text.
 fn range_in(subject: &PyStr, start: i128, end: i128) -> Result<Range<usize>, Fault>
-    ensures { IfOk result (λ range. (range.start ≤ range.end) × (range.end ≤ length subject.now)) }
+    ensures order { IfOk result (λ range. range.start ≤ range.end) }
+    ensures inside { IfOk result (λ range. range.end ≤ length subject.now) }
+    ensures ok { IfOk result (λ range. range_of subject.now start end ≡ Ok (range.start, range.end)) }
+    ensures err { IfErr result (λ e. range_of subject.now start end ≡ Err e) }
 {
     let start = size(start)?;
     let end = size(end)?;
@@ -91,6 +113,7 @@ fn range_in(subject: &PyStr, start: i128, end: i128) -> Result<Range<usize>, Fau
 fn by_range(alloc: Global, name: &str, subject: &PyStr, range: Range<usize>) -> Outcome
     requires order { range.start ≤ range.end }
     requires inside { range.end ≤ length subject.now }
+    ensures { Answers (by_range name.now subject.now range.start range.end) (items_of vec_items result) }
 {
     match name {
         "get_chars" => text(alloc, PyStr::copy_of(alloc, subject.get_chars(range))),
@@ -100,30 +123,74 @@ fn by_range(alloc: Global, name: &str, subject: &PyStr, range: Range<usize>) -> 
     }
 }
 
-fn by_step(
-    alloc: Global,
-    name: &str,
-    subject: &PyStr,
-    bounds: (&Token, &Token, &Token),
-) -> Outcome {
+fn by_step(alloc: Global, name: &str, subject: &PyStr, bounds: (&Token, &Token, &Token)) -> Outcome
+    ensures { Answers
+        (by_step name.now subject.now
+        (bounds.entry.0.now, bounds.entry.1.now, bounds.entry.2.now))
+        (items_of vec_items result) }
+{
     let start = optional(bounds.0)?;
     let end = optional(bounds.1)?;
     let step = optional(bounds.2)?;
-    match (name, start, end, step) {
-        ("getitem_by_slice", _, _, _) => {
-            text(alloc, subject.getitem_by_slice(alloc, start, end, step))
-        }
-        (_, Some(start), Some(end), Some(step)) => {
-            let range = range_in(subject, start, end)?;
-            stepped(alloc, name, subject, range, step)
-        }
-        _ => Err(Fault::BadArguments),
+    by_optional(alloc, name, subject, (start, end, step))
+}
+
+fn by_optional(
+    alloc: Global,
+    name: &str,
+    subject: &PyStr,
+    bounds: (Option<i128>, Option<i128>, Option<i128>),
+) -> Outcome
+    ensures { Answers (by_optional name.now subject.now bounds) (items_of vec_items result) }
+{
+    match name {
+        "getitem_by_slice" => in_brackets(alloc, subject, bounds),
+        _ => in_steps(alloc, name, subject, bounds),
     }
+}
+
+fn in_brackets(
+    alloc: Global,
+    subject: &PyStr,
+    bounds: (Option<i128>, Option<i128>, Option<i128>),
+) -> Outcome
+    ensures { Answers (in_brackets subject.now bounds.0 bounds.1 bounds.2)
+        (items_of vec_items result) }
+{
+    let (start, end, step) = bounds;
+    text(alloc, subject.getitem_by_slice(alloc, start, end, step))
+}
+
+// A number that is there.
+fn there(number: Option<i128>) -> Result<i128, Fault>
+    ensures { result ≡ number_there number }
+{
+    match number {
+        Some(number) => Ok(number),
+        None => Err(Fault::BadArguments),
+    }
+}
+
+fn in_steps(
+    alloc: Global,
+    name: &str,
+    subject: &PyStr,
+    bounds: (Option<i128>, Option<i128>, Option<i128>),
+) -> Outcome
+    ensures { Answers (in_steps name.now subject.now bounds) (items_of vec_items result) }
+{
+    let start = there(bounds.0)?;
+    let end = there(bounds.1)?;
+    let step = there(bounds.2)?;
+    let range = range_in(subject, start, end)?;
+    stepped(alloc, name, subject, range, step)
 }
 
 fn stepped(alloc: Global, name: &str, subject: &PyStr, range: Range<usize>, step: i128) -> Outcome
     requires order { range.start ≤ range.end }
     requires inside { range.end ≤ length subject.now }
+    ensures { Answers (stepped name.now (slice_range subject.now range.start range.end) step)
+        (items_of vec_items result) }
 {
     let step = size(step)?;
     if step == 0 {
@@ -139,7 +206,9 @@ fn stepped(alloc: Global, name: &str, subject: &PyStr, range: Range<usize>, step
 }
 
 // What each step of an iterator gives.
-fn iterate(alloc: Global, name: &str, subject: &PyStr, steps: &[Token]) -> Outcome {
+fn iterate(alloc: Global, name: &str, subject: &PyStr, steps: &[Token]) -> Outcome
+    ensures { Answers (iterated name.now subject.now steps.now) (items_of vec_items result) }
+{
     match name {
         "iterate" => walked(alloc, subject, steps),
         _ => Err(Fault::NoCall),

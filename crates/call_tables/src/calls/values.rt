@@ -1,5 +1,10 @@
 //! Calls that give an integer or a bool itself, a part of it, or its bool.
 
+ghost use Rattle.std.specs.Prelude.{◌≡◌, if◌then◌else◌, Some, None};
+ghost use Rattle.std.specs.Vec.{vec_items};
+ghost use Rattle.call_tables.specs.Calls.Values.{is_among, part_names, same_names, of_one, of_int, of_bools, value_answer};
+ghost use Rattle.call_tables.specs.Results.{Answers, items_of};
+
 use super::flag as bool_of;
 use crate::fault::Fault;
 use crate::results::{Outcome, flag, int, number, ratio, text};
@@ -9,7 +14,9 @@ use py_text::PyStr;
 use std::alloc::Global;
 
 /// A call of the table `values`.
-pub fn answer(alloc: Global, name: &str, arguments: &[Token]) -> Outcome {
+pub fn answer(alloc: Global, name: &str, arguments: &[Token]) -> Outcome
+    ensures { Answers (value_answer name.now arguments.now) (items_of vec_items result) }
+{
     match arguments {
         [Token::Int(one)] => of_one(alloc, name, *one),
         [Token::Int(one), Token::Int(other)] => {
@@ -20,7 +27,9 @@ pub fn answer(alloc: Global, name: &str, arguments: &[Token]) -> Outcome {
     }
 }
 
-fn of_one(alloc: Global, name: &str, one: i128) -> Outcome {
+fn of_one(alloc: Global, name: &str, one: i128) -> Outcome
+    ensures { Answers (of_one name.now one) (items_of vec_items result) }
+{
     if let Some(same) = same_of(name, PyInt::from(one)) {
         return int(alloc, Ok(same));
     }
@@ -35,7 +44,9 @@ fn of_one(alloc: Global, name: &str, one: i128) -> Outcome {
 }
 
 // A call that gives the integer itself.
-fn same_of(name: &str, one: PyInt) -> Option<PyInt> {
+fn same_of(name: &str, one: PyInt) -> Option<PyInt>
+    ensures { result ≡ (if is_among same_names name.now then Some one else None) }
+{
     match name {
         "pos" => Some(one.pos()),
         "int" => Some(one.int()),
@@ -47,7 +58,9 @@ fn same_of(name: &str, one: PyInt) -> Option<PyInt> {
     }
 }
 
-fn same_part(name: &str, one: PyInt) -> Option<PyInt> {
+fn same_part(name: &str, one: PyInt) -> Option<PyInt>
+    ensures { result ≡ (if is_among part_names name.now then Some one else None) }
+{
     match name {
         "conjugate" => Some(one.conjugate()),
         "real" => Some(one.real()),
@@ -57,7 +70,9 @@ fn same_part(name: &str, one: PyInt) -> Option<PyInt> {
     }
 }
 
-fn of_int(alloc: Global, name: &str, one: PyInt) -> Outcome {
+fn of_int(alloc: Global, name: &str, one: PyInt) -> Outcome
+    ensures { Answers (of_int name.now one) (items_of vec_items result) }
+{
     match name {
         "imag" => number(alloc, one.imag() as i128),
         "denominator" => number(alloc, one.denominator() as i128),
@@ -67,7 +82,9 @@ fn of_int(alloc: Global, name: &str, one: PyInt) -> Outcome {
     }
 }
 
-fn of_bools(alloc: Global, name: &str, one: PyBool, other: PyBool) -> Outcome {
+fn of_bools(alloc: Global, name: &str, one: PyBool, other: PyBool) -> Outcome
+    ensures { Answers (of_bools name.now one other) (items_of vec_items result) }
+{
     match name {
         "bool_and" => flag(alloc, one.and(other).value()),
         "bool_or" => flag(alloc, one.or(other).value()),
