@@ -32,7 +32,7 @@ use Rattle.sre_commands.proofs.Utf8Lemmas.{encodes_bytes}
 use Rattle.sre_commands.proofs.SoundLemmas.{line_is, Is, tokens, code_before, text_before, IsCode, ended}
 use Rattle.py_base.proofs.GivesLemmas.{Gives, it, done, reads, passes, skips, spelled as as_spelled}
 
-same_is : (xs ys : List ℕ) → xs ≡ ys → pointwise nat_eq xs ys ≡ true
+pub same_is : (xs ys : List ℕ) → xs ≡ ys → pointwise nat_eq xs ys ≡ true
 same_is xs ys e = at (pointwise nat_eq xs ys) refl
   where
     at : (b : Bool) → pointwise nat_eq xs ys ≡ b → b ≡ true

@@ -15,3 +15,5 @@ pub mod ReaderLemmas
 pub mod LeftLemmas
 pub mod EncodeLemmas
 pub mod DecodeLemmas
+pub mod ValueLemmas
+pub mod ValueReaderLemmas

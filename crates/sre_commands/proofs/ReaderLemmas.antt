@@ -57,13 +57,13 @@ not_number_in limit word none =
     let v = digits_value 10 word in
     no_value (pointwise nat_eq (decimal v) word) (nat_lt v limit) v (λ h k. none v (ltb-true v limit k) (sym (same_text (decimal v) word (sym h))))
 
-not_text_in : (word : List ℕ) → ((text : List ℕ) → all_scalars text ≡ true → word ≡ token text → ⊥) → text_in word ≡ no_request
+pub not_text_in : (word : List ℕ) → ((text : List ℕ) → all_scalars text ≡ true → word ≡ token text → ⊥) → text_in word ≡ no_request
 not_text_in word none =
     let v = spelled word in
     no_value (pointwise nat_eq (token v) word) (all_scalars v) v (λ h k. none v k (sym (same_text (token v) word (sym h))))
 
 -- what a token is, is what is read
-by_token_is : {A : Type 0} (value : List ℕ → Result A ParseError) (bytes word rest : List ℕ) (r : Result A ParseError) → read_token bytes ≡ Ok (word, rest) → value word ≡ r → with_rest r rest ≡ read_by_token value bytes
+pub by_token_is : {A : Type 0} (value : List ℕ → Result A ParseError) (bytes word rest : List ℕ) (r : Result A ParseError) → read_token bytes ≡ Ok (word, rest) → value word ≡ r → with_rest r rest ≡ read_by_token value bytes
 by_token_is value bytes word rest r e is = sym (ap (λ r. r and_then λ word rest. with_rest (value word) rest) e ∙ ap (λ r. with_rest r rest) is)
 
 pub number_read : (bytes word rest : List ℕ) (n : ℕ) → read_token bytes ≡ Ok (word, rest) → n < 2 ^ 64 → word ≡ decimal n → Ok (n, rest) ≡ read_number bytes

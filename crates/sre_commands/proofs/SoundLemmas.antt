@@ -58,7 +58,7 @@ a_number bytes = by_token (λ n. n < 2 ^ 64) decimal (number_in (2 ^ 64)) (numbe
 pub a_word : (bytes : List ℕ) → Holds (λ n x. (n < 2 ^ 32) × (bytes ≡ decimal n ++ x)) (read_word bytes)
 a_word bytes = by_token (λ n. n < 2 ^ 32) decimal (number_in (2 ^ 32)) (number_is (2 ^ 32)) bytes
 
-text_is : (bytes text : List ℕ) → text_in bytes ≡ Ok text → (all_scalars text ≡ true) × (bytes ≡ token text)
+pub text_is : (bytes text : List ℕ) → text_in bytes ≡ Ok text → (all_scalars text ≡ true) × (bytes ≡ token text)
 text_is bytes text e =
     let v = spelled bytes in
     let t = tested (pointwise nat_eq (token v) bytes) (all_scalars v) v text e in

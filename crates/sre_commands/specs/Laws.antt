@@ -1,5 +1,7 @@
 -- Laws of requests.
 use Rattle.std.specs.Prelude.{◌≡◌, ◌↔◌, ℕ, List, [], ◌++◌, Ok}
+use Rattle.py_value.specs.Plain.{Plain}
+use Rattle.sre_commands.specs.Tokens.Value.{HasToken, value_token, value_in}
 use Rattle.sre_commands.specs.Commands.Sub.Request.{Request, IsRequest, text_of}
 use Rattle.sre_commands.specs.Commands.Sub.Reader.{read_request}
 
@@ -18,3 +20,14 @@ abbrev pub ReadingIsTheText : Type 0
 ReadingIsTheText =
     (bytes : List ℕ) (r : Request)
     → (read_request bytes ≡ Ok r) ↔ (IsRequest r × (bytes ≡ text_of r))
+
+-- the reader of the definitions gives a value exactly for its token
+abbrev pub ReadingAValueIsItsToken : Type 0
+ReadingAValueIsItsToken =
+    (bytes : List ℕ) (v : Plain)
+    → (value_in bytes ≡ Ok v) ↔ (HasToken v × (bytes ≡ value_token v))
+
+-- different values have different tokens
+abbrev pub OneValueForOneToken : Type 0
+OneValueForOneToken =
+    (v w : Plain) → HasToken v → HasToken w → value_token v ≡ value_token w → v ≡ w

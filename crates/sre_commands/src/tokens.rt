@@ -4,3 +4,4 @@ pub(crate) mod hexadecimal;
 pub mod number;
 pub mod reader;
 pub mod text;
+pub(crate) mod value;

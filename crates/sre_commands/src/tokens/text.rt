@@ -13,8 +13,8 @@ use crate::tokens::reader::{Read, read_token};
 use py_text::PyStr;
 use std::alloc::Global;
 
-// The text whose token these bytes are.
-fn text_in(alloc: Global, bytes: &[u8]) -> Result<PyStr, ParseError>
+/// The text whose token these bytes are.
+pub(crate) fn text_in(alloc: Global, bytes: &[u8]) -> Result<PyStr, ParseError>
     ensures found { IfOk result (λ text. bytes.now ≡ token text) }
     ensures scalars { IfOk result (λ text. all_scalars text ≡ true) }
     ensures no_request { result ≡ Err ParseError.NoRequest → (text : List ℕ)
