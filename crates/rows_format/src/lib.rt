@@ -10,6 +10,8 @@ mod by_chance;
 #[cfg(test)]
 mod errors;
 #[cfg(test)]
+mod hosts;
+#[cfg(test)]
 mod made;
 #[cfg(test)]
 mod texts;
