@@ -1,6 +1,7 @@
 //! A subject as a list of units that is read by cursors.
 
-ghost use Rattle.std.specs.Prelude.{◌≡◌, ◌+◌, ◌-◌, ◌<◌, ◌≤◌, ◌^◌, ℕ, Bool, true, List, length, take, slice_index, slice_range};
+ghost use Rattle.std.specs.Prelude.{◌≡◌, ◌+◌, ◌-◌, ◌<◌, ◌≤◌, ◌^◌, ℕ, Bool, true, false, List, length, take, slice_index, slice_range};
+ghost use Rattle.sre_match.specs.Seeking.{Sought};
 ghost use Rattle.sre_match.specs.declared.view.StringCursor.{StringCursor};
 
 use py_base::Steps;
@@ -8,6 +9,7 @@ use std::sync::ledger::Ledger;
 
 mod bytes;
 mod metered;
+mod seeking;
 pub mod short;
 mod text;
 
@@ -117,6 +119,28 @@ pub trait StrDrive: Drop {
         requires there { n ≤ cursor.old.place }
         ensures fits { fits (units self.now) cursor.new ≡ true }
         ensures place { cursor.new.place + n ≡ cursor.old.place };
+
+    /// Moves the cursor on to the first unit before `end` that is `wanted`, and answers whether there
+    /// is one; where there is none, to `end`. Each unit that it passes, and the one that it finds, is
+    /// a step.
+    fn seek<L: Ledger>(
+        &self,
+        wanted: u32,
+        cursor: &mut StringCursor,
+        end: usize,
+        steps: &mut Steps<L>,
+    ) -> bool
+        requires fits { fits (units self.now) cursor.old ≡ true }
+        requires order { cursor.old.place ≤ end }
+        requires within { end ≤ length (units self.now) }
+        requires counter { counts L.name }
+        ensures fits { fits (units self.now) cursor.new ≡ true }
+        ensures sought { Sought wanted (units self.now) cursor.old.place end result
+            cursor.new.place }
+        ensures found { result ≡ true →
+            steps.new + cursor.old.place ≡ steps.old + cursor.new.place + 1 }
+        ensures none { result ≡ false →
+            steps.new + cursor.old.place ≡ steps.old + cursor.new.place };
 
     /// The part between two cursors.
     fn slice(&self, from: &StringCursor, to: &StringCursor) -> Self::Part

@@ -83,7 +83,7 @@ pub fn meets_first(first_unit: &FirstUnit<'_>, unit: u32) -> bool
     }
 }
 
-// Moves the cursor to the next unit that is this one, in a loop that looks at no node.
+// Moves the cursor to the next unit that is this one, by the view's own search.
 fn next_literal<S: StrDrive, L: Ledger>(
     wanted: u32,
     s: &Subject<'_, S>,
@@ -101,14 +101,10 @@ fn next_literal<S: StrDrive, L: Ledger>(
     ensures onward { cursor.old.place ≤ cursor.new.place }
     ensures cost { steps.new + cursor.old.place ≤ steps.old + cursor.new.place + 1 }
 {
-    'units: loop {
-        let Some(unit) = unit_at(s, cursor, steps) else {
-            return None;
-        };
-        if unit == wanted {
-            return Some(unit);
-        }
-        s.skip(cursor, 1);
+    if s.seek(wanted, cursor, steps) {
+        Some(wanted)
+    } else {
+        None
     }
 }
 

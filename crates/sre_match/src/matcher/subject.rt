@@ -1,6 +1,7 @@
 //! The subject of a search: a view's units up to an end, read by cursors.
 
-ghost use Rattle.std.specs.Prelude.{◌≡◌, ◌+◌, ◌-◌, ◌<◌, ◌≤◌, ◌^◌, true, length, take, slice_index, slice_get, IfSome};
+ghost use Rattle.std.specs.Prelude.{◌≡◌, ◌+◌, ◌-◌, ◌<◌, ◌≤◌, ◌^◌, true, false, length, take, slice_index, slice_get, IfSome};
+ghost use Rattle.sre_match.specs.Seeking.{Sought};
 
 use crate::view::{StrDrive, StringCursor};
 use py_base::Steps;
@@ -72,6 +73,27 @@ impl<'v, S: StrDrive> Subject<'v, S> {
         ensures place { cursor.new.place ≡ cursor.old.place + n }
     {
         self.view.skip(cursor, n);
+    }
+
+    /// Moves a cursor on to the first unit that is `wanted`, and answers whether there is one; where
+    /// there is none, to the end. Each unit that it passes, and the one that it finds, is a step.
+    pub fn seek<L: Ledger>(
+        &self,
+        wanted: u32,
+        cursor: &mut StringCursor,
+        steps: &mut Steps<L>,
+    ) -> bool
+        requires fits { S.fits self.now cursor.old ≡ true }
+        requires counter { S.counts L.name }
+        ensures fits { S.fits self.now cursor.new ≡ true }
+        ensures sought { Sought wanted self.now cursor.old.place (length self.now) result
+            cursor.new.place }
+        ensures found { result ≡ true →
+            steps.new + cursor.old.place ≡ steps.old + cursor.new.place + 1 }
+        ensures none { result ≡ false →
+            steps.new + cursor.old.place ≡ steps.old + cursor.new.place }
+    {
+        self.view.seek(wanted, cursor, self.end, steps)
     }
 
     /// Moves a cursor back by n units.

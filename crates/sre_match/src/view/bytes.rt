@@ -4,6 +4,7 @@ ghost use Rattle.std.specs.Prelude.{◌≡◌, ◌≤◌, length, ⊤};
 ghost use Rattle.sre_match.specs.Cursor.{is_within};
 ghost use Rattle.sre_match.specs.CursorLemmas.{within_list, within_cut};
 
+use crate::view::seeking::{count_steps, first_byte};
 use crate::view::{StrDrive, StringCursor};
 use py_base::Steps;
 use std::marker::Model;
@@ -76,6 +77,29 @@ impl<'s> StrDrive for ByteView<'s> {
 
     fn back_skip(&self, cursor: &mut StringCursor, n: usize) {
         *cursor = StringCursor::new(cursor.position() - n, 0);
+    }
+
+    fn seek<L: Ledger>(
+        &self,
+        wanted: u32,
+        cursor: &mut StringCursor,
+        end: usize,
+        steps: &mut Steps<L>,
+    ) -> bool {
+        let bytes = self.all;
+        let from = cursor.position();
+        match first_byte(&bytes[from..end], wanted) {
+            Some(at) => {
+                *cursor = StringCursor::new(from + at, 0);
+                count_steps(at + 1, steps);
+                true
+            }
+            None => {
+                *cursor = StringCursor::new(end, 0);
+                count_steps(end - from, steps);
+                false
+            }
+        }
     }
 
     fn slice(&self, from: &StringCursor, to: &StringCursor) -> &'s [u8] {

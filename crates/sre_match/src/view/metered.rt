@@ -75,6 +75,16 @@ impl<'s, K: Ledger> StrDrive for MeteredView<'s, K> {
         self.view.back_skip(cursor, n)
     }
 
+    fn seek<L: Ledger>(
+        &self,
+        wanted: u32,
+        cursor: &mut StringCursor,
+        end: usize,
+        steps: &mut Steps<L>,
+    ) -> bool {
+        self.view.seek(wanted, cursor, end, steps)
+    }
+
     fn slice(&self, from: &StringCursor, to: &StringCursor) -> &'s [u8] {
         self.view.slice(from, to)
     }

@@ -1,11 +1,13 @@
 //! A text, each code point of which is a unit.
 
-ghost use Rattle.std.specs.Prelude.{◌≡◌, ◌+◌, ◌-◌, ◌≤◌, ◌<◌, chars, length, take, slice_index, slice_range, encode_utf8_all, true, ⊤};
+ghost use Rattle.std.specs.Prelude.{◌≡◌, ◌+◌, ◌-◌, ◌≤◌, ◌<◌, chars, length, take, slice_index, slice_range, encode_utf8_all, true, false, IfSome, MatchOption, ⊤};
 ghost use Rattle.std.specs.Char.{len_utf8};
 ghost use Rattle.std.specs.Str.{IsCharBoundary};
 ghost use Rattle.sre_match.specs.Cursor.{fits_text};
 ghost use Rattle.sre_match.specs.CursorLemmas.{within_text, text_cut};
+ghost use Rattle.sre_match.specs.Seeking.{Sought};
 
+use crate::view::seeking::{count_steps, first_point, seek_by_units};
 use crate::view::{StrDrive, StringCursor};
 use py_base::Steps;
 use py_text::PyStr;
@@ -125,6 +127,22 @@ fn end_of(text: &str, count: usize) -> StringCursor
     StringCursor::new(count, text.len())
 }
 
+// The first code point from a cursor on that is wanted.
+fn found_from(text: &str, wanted: u32, cursor: &StringCursor) -> Option<StringCursor>
+    requires { fits_text (chars text.now) cursor.now ≡ true }
+    ensures fits { IfSome result (λ c. fits_text (chars text.now) c ≡ true) }
+    ensures sought { let points = chars text.now in let from = cursor.now.place in
+        MatchOption result (Sought wanted points from (length points) false (length points))
+        (λ c. Sought wanted points from (length points) true c.place) }
+{
+    match first_point(&text[cursor.offset()..], wanted) {
+        Some((points, bytes)) => {
+            Some(StringCursor::new(cursor.position() + points, cursor.offset() + bytes))
+        }
+        None => None,
+    }
+}
+
 impl<'s> StrDrive for TextView<'s> {
     type Part = &'s str;
 
@@ -172,6 +190,31 @@ impl<'s> StrDrive for TextView<'s> {
     fn back_skip(&self, cursor: &mut StringCursor, n: usize) {
         for _k in 0..n {
             *cursor = step_back(self.text, cursor);
+        }
+    }
+
+    fn seek<L: Ledger>(
+        &self,
+        wanted: u32,
+        cursor: &mut StringCursor,
+        end: usize,
+        steps: &mut Steps<L>,
+    ) -> bool {
+        if end < self.count {
+            return seek_by_units(self, wanted, cursor, end, steps);
+        }
+        let from = cursor.position();
+        match found_from(self.text, wanted, cursor) {
+            Some(found) => {
+                *cursor = found;
+                count_steps(found.position() + 1 - from, steps);
+                true
+            }
+            None => {
+                *cursor = end_of(self.text, end);
+                count_steps(end - from, steps);
+                false
+            }
         }
     }
 
