@@ -2,18 +2,20 @@
 r"""Prints the request of a command of sre_program, with the code words that CPython 3.11 compiles a
 pattern to.
 
-    python3 tools/request.py sub PATTERN REPLACEMENT (--text TEXT | --file FILE) [--flags LETTERS] [--limit N]
+    python3 tools/request.py sub PATTERN REPLACEMENT (--text TEXT | --file FILE) [--flags LETTERS] [--limit N] [--own]
 
 The replacement is written as for `re.sub`: `\1`, `\g<1>` and `\g<name>` are groups, `\g<0>` is the whole
 match, and `\n` a line feed. A FILE is read as UTF-8, without any change; `-` is standard input.
 The letters are those of Python's flags: a (ASCII), m (MULTILINE), s (DOTALL), u (UNICODE, as without
-it), x (VERBOSE).
+it), x (VERBOSE). With --own the built re_program compiles the pattern in place of CPython; its letters are
+a m s, and docs/DIFFERENCES.md says which patterns it does not take.
 
 Examples:
 
     python3 tools/request.py sub '(a)|b' '<\1>' --text ab
     python3 tools/request.py sub '(?P<key>\w+)=(\w*)' '\2=\g<key>' --file settings.txt --limit 10
     python3 tools/request.py sub '^#.*$' '' --flags m --file notes.txt > notes.request
+    python3 tools/request.py sub --own '(a)|b' '<\1>' --text ab
 
 Ends with 0, or with 2 and a line on standard error where there is no such request: the pattern or the
 replacement is none for CPython, the pattern ignores case or uses the locale, the file is not UTF-8,
@@ -26,6 +28,7 @@ import sys
 import formats
 import output
 import python_regex
+import text_compiler
 
 
 class Sub:
@@ -40,15 +43,22 @@ class Sub:
         parser.add_argument("--flags", default="", metavar="LETTERS", help="of a m s u x; none by default")
         parser.add_argument("--limit", type=int, default=0, metavar="N",
                             help="how many spans are replaced at most; 0, the default, is no limit")
+        parser.add_argument("--own", action="store_true", help="the built re_program compiles the pattern")
         add_subject(parser)
 
     @staticmethod
     def request(asked):
-        compiled = python_regex.Compiled(asked.pattern, python_regex.flags_of(asked.flags))
-        return python_regex.request_of_sub(compiled, asked.replacement, subject_of(asked), asked.limit)
+        return python_regex.request_of_sub(compiled_as(asked), asked.replacement, subject_of(asked), asked.limit)
 
 
 COMMANDS = [Sub]
+
+
+def compiled_as(asked):
+    """The pattern, compiled by the compiler that is asked for."""
+    if asked.own:
+        return text_compiler.Compiled(asked.pattern, asked.flags)
+    return python_regex.Compiled(asked.pattern, python_regex.flags_of(asked.flags))
 
 
 def add_subject(parser):
